@@ -1,0 +1,99 @@
+-- `of_parts` meets its contract: the digits are shifted up by the free places, or by the place where that is less.
+use mathlib.Core.Path.{_≡_, refl, sym, ap, _∙_}
+use Prim.Native.Nat.{ℕ, _+_, _-_, _*_, _%_, _^_, _<_, _≤_}
+use native.Mathlib.Omega.{arith}
+use native.Mathlib.Nat.{mod-eq-of-lt, le-refl}
+use mathlib.Core.Bool.{false}
+use lib.Ieee.{binary64, odd, ofBits}
+use borrow.Author.Needs.{needs}
+use Rattle.float.proofs.Pattern.{no-nan}
+use Rattle.float.proofs.Leading.{zeros, zeros-in, pattern-lt, pattern-value}
+use Rattle.float.proofs.remainder.of_parts.Statement.{statement}
+use Rattle.float.proofs.remainder.of_parts.Tie as tie
+
+zero-value : (k : ℕ) → ofBits binary64 0 ≡ odd 53 false 0 k 1074
+unfolding ofBits odd
+zero-value k = refl
+
+positive : (n : ℕ) → (n ≡ 0 → ⊥) → 0 < n
+positive n h = omega arith
+
+under : (n : ℕ) → n < 2047 * 2 ^ 52 → n % 2 ^ 63 ≤ 2047 * 2 ^ 52
+under n h = omega arith
+
+-- no place is left
+used-up : (k n : ℕ) → (k - k) * 2 ^ 52 + n ≡ n
+used-up k n = omega arith
+
+returns : tie.Need-returns
+returns c = zero-value (c .before .args .place) ∙ ap (λ (n : ℕ). odd 53 false n (c .before .args .place) 1074) (sym (c .if1 .taken))
+
+free : (c : tie.Start) → (c .args .digits ≡ 0 → ⊥) → (11 ≤ zeros (c .args .digits)) × (zeros (c .args .digits) ≤ 63)
+free c n = zeros-in (c .args .digits) (positive _ n) (c .pre .0)
+
+cast-room : tie.Need-cast-room
+cast-room c = omega (arith, free (c .before) (c .if1 .left))
+
+sub-room : tie.Need-sub-room
+sub-room c = free (c .before) (c .if1 .left) .0
+
+sub-result : tie.Need-sub-result
+sub-result c = search needs
+
+mul-result : tie.Need-mul-result
+mul-result c = search needs
+
+shl-result : tie.Need-shl-result
+shl-result c = omega (arith, free (c .before .before) (c .before .if1 .left))
+
+add-result : tie.Need-add-result
+add-result c =
+    let s = c .before .before in
+    let h : zeros (s .args .digits) - 11 < s .args .place = c .if2 .taken in
+    omega (arith, pattern-lt (s .args .digits) (positive _ (c .before .if1 .left)) (s .pre .0) (s .args .place) (zeros (s .args .digits) - 11) (s .pre .1) (le-refl _) (omega arith) (λ z. refl))
+
+float-from-bits-result : tie.Need-float-from-bits-result
+float-from-bits-result c =
+    let s = c .before .before in
+    let h : zeros (s .args .digits) - 11 < s .args .place = c .if2 .taken in
+    no-nan _ (under _ (pattern-lt (s .args .digits) (positive _ (c .before .if1 .left)) (s .pre .0) (s .args .place) (zeros (s .args .digits) - 11) (s .pre .1) (le-refl _) (omega arith) (λ z. refl)))
+
+returns-2 : tie.Need-returns-2
+returns-2 c =
+    let s = c .before .before in
+    let h : zeros (s .args .digits) - 11 < s .args .place = c .if2 .taken in
+    pattern-value (s .args .digits) (positive _ (c .before .if1 .left)) (s .pre .0) (s .args .place) (zeros (s .args .digits) - 11) (s .pre .1) (le-refl _) (omega arith) (λ z. refl)
+
+shl-result-2 : tie.Need-shl-result-2
+shl-result-2 c = omega (arith, free (c .before .before) (c .before .if1 .left))
+
+float-from-bits-result-2 : tie.Need-float-from-bits-result-2
+float-from-bits-result-2 c =
+    let s = c .before .before in
+    let k = s .args .place in
+    rw (sym (used-up k (s .args .digits * 2 ^ k % 2 ^ 64)))
+    (no-nan _ (under _ (pattern-lt (s .args .digits) (positive _ (c .before .if1 .left)) (s .pre .0) k k (s .pre .1) (c .if2 .left) (le-refl _) (λ (z : 0 < k - k). omega arith))))
+
+returns-3 : tie.Need-returns-3
+returns-3 c =
+    let s = c .before .before in
+    let k = s .args .place in
+    ap (ofBits binary64) (sym (used-up k (s .args .digits * 2 ^ k % 2 ^ 64)))
+    ∙ pattern-value (s .args .digits) (positive _ (c .before .if1 .left)) (s .pre .0) k k (s .pre .1) (c .if2 .left) (le-refl _) (λ (z : 0 < k - k). omega arith)
+
+pub of-parts-spec : {M : Type 1} → statement M
+of-parts-spec =
+    tie.close
+    (tie.spec
+    returns
+    cast-room
+    sub-room
+    sub-result
+    mul-result
+    shl-result
+    add-result
+    float-from-bits-result
+    returns-2
+    shl-result-2
+    float-from-bits-result-2
+    returns-3)

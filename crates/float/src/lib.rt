@@ -1,0 +1,3 @@
+// The float ground: everything above reaches floats through these functions and the language's own operators.
+pub mod bits;
+pub mod remainder;

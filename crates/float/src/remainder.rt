@@ -1,0 +1,75 @@
+// The remainder of two floats, over whole numbers. The language's own `%` would link the C library's fmod.
+ghost use mathlib.Core.Path.{_≡_};
+ghost use mathlib.Core.Bool.{false};
+ghost use Prim.Native.Nat.{_-_, _*_, _%_, _^_, _≤_, _<_};
+ghost use lib.Ieee as Ieee;
+ghost use lib.Ieee.{binary64};
+use crate::bits::FIELD;
+use crate::bits::INFINITY;
+use crate::bits::Parts;
+use crate::bits::SIGN;
+use crate::bits::parts_of;
+use crate::bits::sign_bit;
+
+// digits * 2^k modulo m: eleven bits a step, since m leaves eleven of 64 free.
+fn shifted_rem(digits: u64, k: u64, m: u64) -> u64
+    requires { ⌜ (0 < m) × (m < 2 ^ 53) ⌝ }
+    ensures { λ r. ⌜ r ≡ digits * 2 ^ k % m ⌝ }
+{
+    let mut rest = digits % m;
+    let mut left = k;
+    while left >= 11 {
+        rest = rest * 2048 % m;
+        left -= 11;
+    }
+    (rest << left) % m
+}
+
+// digits * 2^place units of 2^-1074 as a float: the digits are shifted up until one leads, or the place is used up.
+fn of_parts(digits: u64, place: u64) -> f64
+    requires { ⌜ (digits < 2 ^ 53) × (place < 2046) ⌝ }
+    ensures { λ r. ⌜ r ≡ Ieee.odd 53 false digits place 1074 ⌝ }
+{
+    if digits == 0 {
+        return 0.0;
+    }
+    let room = (u64::leading_zeros(digits) as u64) - 11;
+    if room < place {
+        return f64::from_bits((place - room) * FIELD + (digits << room));
+    }
+    f64::from_bits(digits << place)
+}
+
+// The remainder of two magnitudes by their parts: both are whole numbers of 2^place units, with the place of b.
+fn rem_of_parts(a: Parts, b: Parts) -> f64
+    requires { ⌜ (0 < b .digits) × (b .digits < 2 ^ 53) × (b .place ≤ a .place) × (b .place < 2046) ⌝ }
+    ensures { λ r. ⌜ r ≡ Ieee.odd 53 false (a .digits * 2 ^ (a .place - b .place) % b .digits) (b .place) 1074 ⌝ }
+{
+    let place = b.place;
+    of_parts(shifted_rem(a.digits, a.place - place, b.digits), place)
+}
+
+// x less y times the whole part of x / y: exact, with the sign of x.
+pub fn rem(x: f64, y: f64) -> f64
+    ensures { λ r. ⌜ r ≡ Ieee.rem binary64 x y ⌝ }
+{
+    if x != x {
+        return x;
+    }
+    if y != y {
+        return y;
+    }
+    let p = f64::to_bits(x);
+    let q = f64::to_bits(y);
+    if p % SIGN >= INFINITY {
+        return 0.0 / 0.0;
+    }
+    if q % SIGN == 0 {
+        return 0.0 / 0.0;
+    }
+    if p % SIGN < q % SIGN {
+        return x;
+    }
+    let r = rem_of_parts(parts_of(p), parts_of(q));
+    if sign_bit(x) { -r } else { r }
+}
