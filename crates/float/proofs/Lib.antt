@@ -1,6 +1,13 @@
+pub mod Ordering
 pub mod Pattern
 pub mod Sign
 pub mod Value
 pub mod Modulo
 pub mod Leading
 pub mod Fmod
+pub mod Square
+pub mod Digits
+pub mod WholeRoot
+pub mod RoundRoot
+pub mod Lifted
+pub mod Rooted

@@ -1,3 +1,4 @@
 // The float ground: everything above reaches floats through these functions and the language's own operators.
 pub mod bits;
 pub mod remainder;
+pub mod root;
