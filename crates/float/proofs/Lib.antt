@@ -13,3 +13,5 @@ pub mod Lifted
 pub mod Rooted
 pub mod Closest
 pub mod Nearest
+pub mod Turns
+pub mod Tangent

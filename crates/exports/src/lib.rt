@@ -1,0 +1,2 @@
+// C entry points, for callers in C and Rust; each is the function of the same name below.
+pub mod float_ground;

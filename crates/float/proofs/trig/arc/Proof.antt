@@ -1,0 +1,24 @@
+-- `arc` meets its contract.
+use mathlib.Core.Path.{_≡_, refl, sym, ap, _∙_, subst}
+use Rattle.float.specs.Trig as spec
+use lib.Ieee.{Float, binary64, add, ofInt, ofBits}
+use borrow.Author.Needs.{needs}
+use Rattle.float.proofs.trig.arc.Statement.{statement}
+use Rattle.float.proofs.trig.arc.Tie as tie
+
+arc-series-requires : tie.Need-arc-series-requires
+arc-series-requires c κs = search needs
+
+arc-series-requires-2 : tie.Need-arc-series-requires-2
+arc-series-requires-2 c κs = search needs
+
+returns : tie.Need-returns
+unfolding spec.arc ofInt ofBits
+returns c = simp (c .before .if1 .taken, c .arc-series .ensures)
+
+returns-2 : tie.Need-returns-2
+unfolding spec.arc ofInt ofBits
+returns-2 c = simp (c .before .if1 .left, c .arc-series2 .ensures)
+
+pub arc-spec : {M : Type 1} → statement M
+arc-spec = tie.close (tie.spec arc-series-requires arc-series-requires-2 returns returns-2)

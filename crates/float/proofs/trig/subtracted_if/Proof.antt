@@ -1,0 +1,14 @@
+-- `subtracted_if` meets its contract.
+use mathlib.Core.Path.{_≡_, refl, sym, ap, _∙_, subst}
+use borrow.Author.Needs.{needs}
+use Rattle.float.proofs.trig.subtracted_if.Statement.{statement}
+use Rattle.float.proofs.trig.subtracted_if.Tie as tie
+
+returns : tie.Need-returns
+returns c = simp (c .if1 .taken)
+
+returns-2 : tie.Need-returns-2
+returns-2 c = search needs
+
+pub subtracted-if-spec : {M : Type 1} → statement M
+subtracted-if-spec = tie.close (tie.spec returns returns-2)
