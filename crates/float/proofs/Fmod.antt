@@ -172,7 +172,6 @@ rem-of-smaller x (fin s n d) f g _ t h =
     let o : units-of x < units-of y = units-order (digits-of x) (place-of x) (digits-of y) (place-of y) (p .placed) (q .placed) l in
     same-value x (rem binary64 x y) (signBit x) (units-of x) f (rem-fits binary64 x y f) (p .value)
     (rem-value x y (units-of x) (units-of y) (digits-of x) (place-of x) (p .value) (q .value) (positive (units-of x) (units-of y) o) (mod-eq-of-lt o) (p .placed .small) (p .placed .under))
-
   where
     positive : (m n : ℕ) → m < n → 0 < n
     positive m n h = omega arith
@@ -221,10 +220,10 @@ rem-of-larger x y f g t z h =
       order = o;
       under = q .placed .under;
       is =
-        same-value (rem binary64 x y) (odd 53 (signBit x) (Q % digits-of y) j 1074) (signBit x) (Q % digits-of y * 2 ^ j) (rem-fits binary64 x y f) (odd-held (signBit x) (Q % digits-of y) j s (q .placed .under))
-        (rem-value x y (units-of x) (units-of y) (Q % digits-of y) j (p .value) (q .value) (mul-pos D (pow-pos j)) e s (q .placed .under))
-        (odd-sign 53 (signBit x) (Q % digits-of y) j 1074)
-        ∙ odd-with-sign (signBit x) (Q % digits-of y) j
+          same-value (rem binary64 x y) (odd 53 (signBit x) (Q % digits-of y) j 1074) (signBit x) (Q % digits-of y * 2 ^ j) (rem-fits binary64 x y f) (odd-held (signBit x) (Q % digits-of y) j s (q .placed .under))
+          (rem-value x y (units-of x) (units-of y) (Q % digits-of y) j (p .value) (q .value) (mul-pos D (pow-pos j)) e s (q .placed .under))
+          (odd-sign 53 (signBit x) (Q % digits-of y) j 1074)
+          ∙ odd-with-sign (signBit x) (Q % digits-of y) j;
     }
   where
     back : (j k : ℕ) → j ≤ k → k ≡ k - j + j

@@ -98,5 +98,5 @@ nearest-root m e t =
       result = kept a * 2 ^ k a;
       value = subst (λ (r : Float). HasValue r false (kept a * 2 ^ k a) (2 ^ 1074)) (sym (root-is m e ∙ is-units a)) (units-val binary64 false (kept a) (k a) (result-lt a s));
       none-above = λ n d f l. above a (h .digits) (h .place + 1074) (h .small) i (inUnits n d) (holds n d f) l;
-      none-below = λ n d f l. below a (h .digits) (h .place + 1074) (h .small) i (inUnits n d) (holds n d f) l
+      none-below = λ n d f l. below a (h .digits) (h .place + 1074) (h .small) i (inUnits n d) (holds n d f) l;
     }

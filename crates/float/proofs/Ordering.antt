@@ -22,6 +22,21 @@ cmp a b = go (compare a b) (leb→le a b) (nleb→lt a b) (eqb→eq a b) (λ (e 
     go Ordering·eq h k e n = e tt
     go Ordering·gt h k e n = k tt
 
+-- the order of two numbers tells what `compare` says
+pub ordered : (a b : ℕ) (o : Ordering) → Cmp o a b → compare a b ≡ o
+ordered a b o h = go (compare a b) o (cmp a b) h
+  where
+    go : (o p : Ordering) → Cmp o a b → Cmp p a b → o ≡ p
+    go Ordering·lt Ordering·lt x y = refl
+    go Ordering·lt Ordering·eq x y = let z : ⊥ = omega arith in absurd z
+    go Ordering·lt Ordering·gt x y = let z : ⊥ = omega arith in absurd z
+    go Ordering·eq Ordering·lt x y = let z : ⊥ = omega arith in absurd z
+    go Ordering·eq Ordering·eq x y = refl
+    go Ordering·eq Ordering·gt x y = let z : ⊥ = omega arith in absurd z
+    go Ordering·gt Ordering·lt x y = let z : ⊥ = omega arith in absurd z
+    go Ordering·gt Ordering·eq x y = let z : ⊥ = omega arith in absurd z
+    go Ordering·gt Ordering·gt x y = refl
+
 -- a common factor does not matter
 pub rescale : (o : Ordering) (a b c : ℕ) → 0 < c → Cmp o (a * c) (b * c) → Cmp o a b
 rescale Ordering·lt a b c C h = lt-of-mul-lt-mul-right c h

@@ -7,7 +7,6 @@ infixl 60 _⊕_
 infixl 60 _⊖_
 infixl 70 _⊗_
 infixl 70 _⊘_
-
 -- each rounds once
 abbrev pub _⊕_ : Float → Float → Float
 x ⊕ y = add binary64 x y

@@ -167,7 +167,11 @@ fn quotient(lesser: f64, greater: f64) -> f64
 fn ratio(a: f64, b: f64) -> f64
     ensures { λ r. ⌜ r ≡ spec.ratio a b ⌝ }
 {
-    if a < b { quotient(a, b) } else { quotient(b, a) }
+    if a < b {
+        quotient(a, b)
+    } else {
+        quotient(b, a)
+    }
 }
 
 // α: the arc whose tangent is t.

@@ -1,0 +1,55 @@
+//! The proved functions, through the static library's C symbols.
+
+use crate::answer::Outcome;
+
+/// Whether the library stood in its place when this was built.
+pub const LINKED: bool = cfg!(linked);
+
+/// Declares each symbol as a safe function; without the library a stand-in that must not be called.
+macro_rules! exports {
+    ($($symbol:literal: $name:ident($($argument:ident: $type:ty),+) -> $answer:ty;)+) => {
+        // SAFETY: every function takes and returns plain numbers and is proved to
+        // return for all of them; a reference is written to and not kept.
+        #[cfg(linked)]
+        unsafe extern "C" {
+            $(#[link_name = $symbol]
+            pub safe fn $name($($argument: $type),+) -> $answer;)+
+        }
+        $(#[cfg(not(linked))]
+        pub fn $name($(_: $type),+) -> $answer {
+            unreachable!("{} is not linked", $symbol)
+        })+
+    };
+}
+
+exports! {
+    "plot_sign_bit": sign_bit(x: f64) -> bool;
+    "plot_magnitude": magnitude(x: f64) -> f64;
+    "plot_to_bits": to_bits(x: f64) -> u64;
+    "plot_from_bits": from_bits(bits: u64) -> f64;
+    "plot_sqrt": sqrt(x: f64) -> f64;
+    "plot_rem": rem(x: f64, y: f64) -> f64;
+    "plot_sin": sin(x: f64) -> f64;
+    "plot_cos": cos(x: f64) -> f64;
+    "plot_atan2": atan2(y: f64, x: f64) -> f64;
+    "plot_to_radians": to_radians(x: f64) -> f64;
+    "plot_to_degrees": to_degrees(x: f64) -> f64;
+    "plot_from_seconds": store_seconds(t: f64, nanoseconds: &mut u64) -> u8;
+    "plot_from_hours": store_hours(h: f64, nanoseconds: &mut u64) -> u8;
+    "plot_to_seconds": to_seconds(nanoseconds: u64) -> f64;
+}
+
+pub fn from_seconds(t: f64) -> Outcome {
+    stored(|nanoseconds| store_seconds(t, nanoseconds))
+}
+
+pub fn from_hours(h: f64) -> Outcome {
+    stored(|nanoseconds| store_hours(h, nanoseconds))
+}
+
+/// The number returned and the nanoseconds stored; a value that is not stored stays all ones.
+fn stored(store: impl Fn(&mut u64) -> u8) -> Outcome {
+    let mut nanoseconds = u64::MAX;
+    let number = store(&mut nanoseconds);
+    Outcome { number, nanoseconds }
+}

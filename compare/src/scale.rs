@@ -1,0 +1,90 @@
+//! Runs every function and its reference on many inputs and counts the differences.
+
+use crate::functions::{CHECKS, FUNCTIONS, Function};
+use crate::inputs::random::SEED;
+use crate::{distance, lines};
+use std::thread;
+
+const THREADS: u64 = 2;
+const REACH: u32 = 4;
+const SHOWN: usize = 5;
+
+/// Whether nothing differs on so many drawn inputs for each function.
+pub fn run(count: u64) -> bool {
+    println!("seed {SEED:016x}");
+    println!("{:<28}{:>12}{:>12}", "function", "inputs", "differences");
+    let mut equal = true;
+    for (functions, note) in [(FUNCTIONS, ""), (CHECKS, " (reference)")] {
+        for function in functions {
+            let tally = compared(function, count);
+            tally.print(&format!("{}{note}", function.name));
+            equal &= tally.differences == 0;
+        }
+    }
+    distance::print(count);
+    equal
+}
+
+/// What one comparison met.
+#[derive(Default)]
+struct Tally {
+    inputs: u64,
+    differences: u64,
+    first: Vec<String>,
+}
+
+impl Tally {
+    fn meet(&mut self, function: &Function, words: &[u64]) {
+        self.inputs += 1;
+        let (tested, reference) = ((function.tested)(words), (function.reference)(words));
+        if tested != reference {
+            self.differences += 1;
+            self.show(|| {
+                let call = lines::call(function, words);
+                format!("  {call}: tested {tested}, reference {reference}")
+            });
+        }
+    }
+
+    /// Keeps the first few lines that are not the same.
+    fn show(&mut self, line: impl Fn() -> String) {
+        if self.first.len() < SHOWN {
+            let line = line();
+            if !self.first.contains(&line) {
+                self.first.push(line);
+            }
+        }
+    }
+
+    fn add(mut self, other: Tally) -> Tally {
+        self.inputs += other.inputs;
+        self.differences += other.differences;
+        other.first.iter().for_each(|line| self.show(|| line.clone()));
+        self
+    }
+
+    fn print(&self, name: &str) {
+        println!("{name:<28}{:>12}{:>12}", self.inputs, self.differences);
+        self.first.iter().for_each(|line| println!("{line}"));
+    }
+}
+
+/// The boundaries, then the drawn inputs, parted among the threads.
+fn compared(function: &Function, count: u64) -> Tally {
+    let mut fixed = Tally::default();
+    function.each_boundary(REACH, |words| fixed.meet(function, words));
+    thread::scope(|scope| {
+        let parts: Vec<_> = (1..=THREADS)
+            .map(|part| scope.spawn(move || drawn(function, part, count.div_ceil(THREADS))))
+            .collect();
+        let join = |part: thread::ScopedJoinHandle<Tally>| part.join().expect("no function panics");
+        parts.into_iter().map(join).fold(fixed, Tally::add)
+    })
+}
+
+fn drawn(function: &Function, part: u64, count: u64) -> Tally {
+    let mut tally = Tally::default();
+    let stream = part << 8 | function.number as u64;
+    function.each_drawn(stream, count, |words| tally.meet(function, words));
+    tally
+}

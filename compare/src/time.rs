@@ -1,0 +1,99 @@
+//! Nanoseconds a call on both sides, on the same inputs.
+
+use crate::functions::Argument;
+use crate::inputs::classes::{BITS, DIRECTION, Draw, TURN, WIDTH};
+use crate::inputs::random::{Random, power};
+use crate::{ours, reference};
+use std::hint::black_box;
+use std::time::{Duration, Instant};
+
+const INPUTS: usize = 4096;
+const ROUNDS: usize = 200;
+/// A case stops early here, so that the slowest do not hold up the rest.
+const PATIENCE: Duration = Duration::from_millis(500);
+
+const DEGREES: Draw = Draw::Float(|r| r.within(-360.0, 360.0));
+const SMALL: Draw = Draw::Float(|r| r.within(0.0, 4.0));
+const MAGNITUDES: Draw = Draw::Float(|r| r.scaled(-1074, 1023));
+const FAR: Draw = Draw::Float(|r| r.within(-1e4, 1e4));
+const WRAPPED: Draw = Draw::Pair(|r| [r.within(0.0, 1e4), 2.0 * std::f64::consts::PI]);
+const WORST: Draw = Draw::Pair(|_| [power(1023), power(-1074)]);
+const LONG: Draw = Draw::Pair(|r| [r.scaled(1000, 1023), r.scaled(-1070, -1022)]);
+const SECONDS: Draw = Draw::Float(|r| r.within(0.0, 1e6));
+const HOURS: Draw = Draw::Float(|r| r.within(0.0, 1e6 / 3600.0));
+
+macro_rules! case {
+    ($name:ident($($argument:ident),+), $range:literal, $draw:expr) => {
+        measure(
+            stringify!($name),
+            $range,
+            $draw,
+            |[$($argument),+]| ours::$name($(Argument::of($argument)),+),
+            |[$($argument),+]| reference::$name($(Argument::of($argument)),+),
+        )
+    };
+}
+
+pub fn run() {
+    println!("{:<14}{:<26}{:>9}{:>9}{:>8}", "function", "inputs", "ns here", "ns Rust", "ratio");
+    case!(sign_bit(x), "-360..360", DEGREES);
+    case!(magnitude(x), "-360..360", DEGREES);
+    case!(to_bits(x), "-360..360", DEGREES);
+    case!(from_bits(bits), "all patterns", BITS);
+    case!(sqrt(x), "0..4", SMALL);
+    case!(sqrt(x), "all magnitudes", MAGNITUDES);
+    case!(rem(x, y), "0..1e4 % 2π", WRAPPED);
+    case!(rem(x, y), "2^1023 % 2^-1074", WORST);
+    case!(rem(x, y), "huge % subnormal", LONG);
+    case!(sin(x), "-2π..2π", TURN);
+    case!(sin(x), "-1e4..1e4", FAR);
+    case!(cos(x), "-2π..2π", TURN);
+    case!(cos(x), "-1e4..1e4", FAR);
+    case!(atan2(y, x), "unit vectors", DIRECTION);
+    case!(to_radians(x), "-360..360", DEGREES);
+    case!(to_degrees(x), "-2π..2π", TURN);
+    case!(from_seconds(t), "0..1e6 s", SECONDS);
+    case!(from_hours(h), "0..1e6 s", HOURS);
+    case!(to_seconds(nanoseconds), "every width", WIDTH);
+}
+
+/// Prints one row: the best of several rounds, the sides taking turns.
+fn measure<const N: usize, A, B>(
+    name: &str,
+    range: &str,
+    draw: Draw,
+    here: impl Fn([u64; N]) -> A,
+    rust: impl Fn([u64; N]) -> B,
+) {
+    let inputs = prepared(draw);
+    let (mut best_here, mut best_rust) = (f64::INFINITY, f64::INFINITY);
+    let start = Instant::now();
+    for _ in 0..ROUNDS {
+        best_here = best_here.min(round(&inputs, &here));
+        best_rust = best_rust.min(round(&inputs, &rust));
+        if start.elapsed() > PATIENCE {
+            break;
+        }
+    }
+    let ratio = best_here / best_rust;
+    println!("{name:<14}{range:<26}{best_here:>9.2}{best_rust:>9.2}{ratio:>8.2}");
+}
+
+fn prepared<const N: usize>(draw: Draw) -> Vec<[u64; N]> {
+    let mut random = Random::new(0);
+    let mut words = [0; N];
+    let mut input = || {
+        draw.fill(&mut random, &mut words);
+        words
+    };
+    (0..INPUTS).map(|_| input()).collect()
+}
+
+/// Nanoseconds a call over all inputs once.
+fn round<const N: usize, A>(inputs: &[[u64; N]], call: impl Fn([u64; N]) -> A) -> f64 {
+    let start = Instant::now();
+    for words in black_box(inputs) {
+        black_box(call(*words));
+    }
+    start.elapsed().as_secs_f64() * 1e9 / inputs.len() as f64
+}

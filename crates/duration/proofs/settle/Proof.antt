@@ -1,0 +1,27 @@
+-- `settle` meets its contract.
+use borrow.Author.Tests.{eq-eqb, ne-eqb}
+use borrow.Author.Needs.{needs}
+use Rattle.duration.specs.Duration.{settled}
+use Rattle.duration.proofs.settle.Statement.{statement}
+use Rattle.duration.proofs.settle.Tie as tie
+
+returns : tie.Need-returns
+unfolding settled
+returns c = simp (eq-eqb _ _ (c .if1 .taken))
+
+add-result : tie.Need-add-result
+add-result c = search needs
+
+returns-2 : tie.Need-returns-2
+unfolding settled
+returns-2 c = simp (ne-eqb _ _ (c .before .if1 .left), c .if2 .taken)
+
+add-result-2 : tie.Need-add-result-2
+add-result-2 c = search needs
+
+returns-3 : tie.Need-returns-3
+unfolding settled
+returns-3 c = simp (ne-eqb _ _ (c .before .if1 .left), c .if2 .left)
+
+pub settle-spec : {M : Type 1} → statement M
+settle-spec = tie.close (tie.spec returns add-result returns-2 add-result-2 returns-3)

@@ -1,0 +1,58 @@
+-- `call::arguments` is safe and ends: k stays within the array.
+use Prim.Native.Nat.{_-_, _≤_}
+use native.Mathlib.Omega.{arith}
+use Rattle.probe.proofs.call.arguments.Statement.{statement}
+use Rattle.probe.proofs.call.arguments.Tie as tie
+
+abbrev Inv-loop : tie.InvT-loop
+Inv-loop line args₀ k₀ args k = k ≤ 16
+
+abbrev μ-loop : tie.MeasureT-loop
+μ-loop line args₀ k₀ args k = 16 - k
+
+loop-holds : tie.Need-loop-holds Inv-loop μ-loop
+loop-holds c = omega arith
+
+mul-number-at : tie.Need-mul-number-at Inv-loop μ-loop
+mul-number-at c = omega arith
+
+add-number-at : tie.Need-add-number-at Inv-loop μ-loop
+add-number-at c = omega arith
+
+number-at-requires : tie.Need-number-at-requires Inv-loop μ-loop
+number-at-requires c κs = tt
+
+mul-args : tie.Need-mul-args Inv-loop μ-loop
+mul-args c = omega arith
+
+array-write-args : tie.Need-array-write-args Inv-loop μ-loop
+array-write-args c = omega arith
+
+add-k : tie.Need-add-k Inv-loop μ-loop
+add-k c = omega arith
+
+loop-less : tie.Need-loop-less Inv-loop μ-loop
+loop-less c = omega arith
+
+loop-again : tie.Need-loop-again Inv-loop μ-loop
+loop-again c = omega arith
+
+returns : tie.Need-returns Inv-loop μ-loop
+returns c = tt
+
+pub arguments-spec : {M : Type 1} → statement M
+arguments-spec =
+    tie.close
+    (tie.spec
+    Inv-loop
+    μ-loop
+    loop-holds
+    mul-number-at
+    add-number-at
+    number-at-requires
+    mul-args
+    array-write-args
+    add-k
+    loop-less
+    loop-again
+    returns)

@@ -1,0 +1,96 @@
+-- `lines::pour` is safe and ends: the page keeps its length, and each turn of the loop takes a byte.
+use mathlib.Core.Path.{_≡_}
+use Prim.Native.Nat.{_-_, _≤_}
+use native.Mathlib.Omega.{arith}
+use lib.ListN.{length}
+use Rattle.probe.proofs.lines.pour.Statement.{statement}
+use Rattle.probe.proofs.lines.pour.Tie as tie
+
+abbrev Inv-loop : tie.InvT-loop
+Inv-loop xs page₀ bytes₀ n₀ at₀ i₀ page bytes n at i = (i ≤ length xs) × (length page ≡ length page₀)
+
+abbrev μ-loop : tie.MeasureT-loop
+μ-loop xs page₀ bytes₀ n₀ at₀ i₀ page bytes n at i = length xs - i
+
+loop-holds : tie.Need-loop-holds Inv-loop μ-loop
+loop-holds c = omega arith
+
+shared-slice-read-b : tie.Need-shared-slice-read-b Inv-loop μ-loop
+shared-slice-read-b c = omega arith
+
+add-i : tie.Need-add-i Inv-loop μ-loop
+add-i c = omega arith
+
+is-full-requires : tie.Need-is-full-requires Inv-loop μ-loop
+is-full-requires c κs = tt
+
+flush-requires : tie.Need-flush-requires Inv-loop μ-loop
+flush-requires c κs = tt
+
+same-length : tie.Need-same-length Inv-loop μ-loop
+same-length c = omega arith
+
+returns : tie.Need-returns Inv-loop μ-loop
+returns c = tt
+
+answer-requires : tie.Need-answer-requires Inv-loop μ-loop
+answer-requires c κs = tt
+
+loop-less : tie.Need-loop-less Inv-loop μ-loop
+loop-less c = omega arith
+
+loop-again : tie.Need-loop-again Inv-loop μ-loop
+loop-again c = omega arith
+
+array-write-bytes : tie.Need-array-write-bytes Inv-loop μ-loop
+array-write-bytes c = omega arith
+
+add-n : tie.Need-add-n Inv-loop μ-loop
+add-n c = omega arith
+
+loop-less-2 : tie.Need-loop-less-2 Inv-loop μ-loop
+loop-less-2 c = omega arith
+
+loop-again-2 : tie.Need-loop-again-2 Inv-loop μ-loop
+loop-again-2 c = omega arith
+
+loop-less-3 : tie.Need-loop-less-3 Inv-loop μ-loop
+loop-less-3 c = omega arith
+
+loop-again-3 : tie.Need-loop-again-3 Inv-loop μ-loop
+loop-again-3 c = omega arith
+
+flush-requires-2 : tie.Need-flush-requires-2 Inv-loop μ-loop
+flush-requires-2 c κs = tt
+
+same-length-2 : tie.Need-same-length-2 Inv-loop μ-loop
+same-length-2 c = omega arith
+
+returns-2 : tie.Need-returns-2 Inv-loop μ-loop
+returns-2 c = tt
+
+pub pour-spec : {M : Type 1} → statement M
+pour-spec =
+    tie.close
+    (tie.spec
+    Inv-loop
+    μ-loop
+    loop-holds
+    shared-slice-read-b
+    add-i
+    is-full-requires
+    flush-requires
+    same-length
+    returns
+    answer-requires
+    loop-less
+    loop-again
+    array-write-bytes
+    add-n
+    loop-less-2
+    loop-again-2
+    loop-less-3
+    loop-again-3
+    flush-requires-2
+    same-length-2
+    returns-2)

@@ -1,0 +1,88 @@
+// A line as a call: two digits of the function's number, then a space and 16 digits for each argument.
+use crate::durations;
+use crate::fields;
+use crate::floats;
+
+// A call has this many arguments at most, and then this many bytes.
+const ARGUMENTS: usize = 16;
+
+pub const LONGEST: usize = 2 + 17 * ARGUMENTS;
+
+// More arguments than a line has room for: how many a number takes that is no function's.
+const UNKNOWN: usize = 99;
+
+// How many arguments the function of a number takes.
+fn arity(f: u64) -> usize {
+    match f {
+        0x01..=0x0b => floats::arity(f),
+        0x0c..=0x0e => durations::arity(f),
+        _ => UNKNOWN,
+    }
+}
+
+// The result fields, over the page from at on, and the place past them.
+fn dispatch(f: u64, args: &[u64], page: &mut [u8], at: usize) -> usize {
+    match f {
+        0x01..=0x0b => floats::answer(f, args, page, at),
+        0x0c..=0x0e => durations::answer(f, args, page, at),
+        _ => fields::put_refusal(page, at),
+    }
+}
+
+// May b stand at place i of a line: a space before each argument, a digit anywhere else?
+fn stands(i: usize, b: u8) -> bool {
+    if i % 17 == 2 {
+        return b == b' ';
+    }
+    hex::is_digit(b)
+}
+
+// Is each byte what its place asks for?
+fn is_laid_out(line: &[u8]) -> bool {
+    let mut i = 0;
+    while i < line.len() {
+        if !stands(i, line[i]) {
+            return false;
+        }
+        i += 1;
+    }
+    true
+}
+
+// Does the line call a function that there is, with as many arguments as that takes?
+fn is_call(line: &[u8]) -> bool {
+    let n = line.len();
+    if n % 17 != 2 {
+        return false;
+    }
+    if n / 17 != arity(hex::number_at(line, 0, 2)) {
+        return false;
+    }
+    is_laid_out(line)
+}
+
+// The arguments in their order, and zeros after the last.
+fn arguments(line: &[u8]) -> [u64; ARGUMENTS] {
+    let mut args = [0u64; ARGUMENTS];
+    let mut k = 0;
+    while k < ARGUMENTS {
+        args[k] = hex::number_at(line, 3 + 17 * k, 16);
+        k += 1;
+    }
+    args
+}
+
+// The answer to a line with its newline, over the page from at on, and the place past it.
+pub fn answer(line: &[u8], page: &mut [u8], at: usize) -> usize {
+    let next = answer_fields(line, page, at);
+    fields::put_byte(page, next, b'\n')
+}
+
+// The result fields of a call, or the refusal of what is none.
+fn answer_fields(line: &[u8], page: &mut [u8], at: usize) -> usize {
+    if !is_call(line) {
+        return fields::put_refusal(page, at);
+    }
+    let args = arguments(line);
+    dispatch(hex::number_at(line, 0, 2), &args, page, at)
+}
