@@ -1,6 +1,6 @@
 -- Fractions to the nearest whole number: ties to even by the digit of the half and what stands below it, and halves away from zero. Assumes nothing.
 use mathlib.Core.Path.{_≡_, sym, ap, _∙_}
-use Prim.Native.Nat.{ℕ, zero, suc, _+_, _*_, _/_, _%_, _≤_, _<_, compare, Ordering, Ordering·lt, Ordering·eq, Ordering·gt}
+use Prim.Native.Nat.{ℕ, zero, suc, _+_, _*_, _/_, _%_, _≤_, _<_, compare, Ordering·lt, Ordering·eq, Ordering·gt}
 use native.Mathlib.Nat.{le-of-suc-le-suc, mul-assoc, mul-comm, mul-left-comm, mul-le-mul-right, mul-pos, add-mul, mul-add, add-assoc, zero-lt-suc, mod-eq-of-lt, div-eq-of-lt, add-div-right, div-div-eq-div-mul}
 use native.Mathlib.Omega.{arith}
 use mathlib.Core.Bool.{not}

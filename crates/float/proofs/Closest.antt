@@ -1,7 +1,7 @@
 -- No tie: the number of units kept by `roundRoot a` is strictly nearer to √a than any other that binary64 holds, where a is itself
 -- such a number times a power of two. (Nearness without roots: √a is below the middle of R and v where 4 * a < (R + v) ^ 2.) Assumes nothing.
-use mathlib.Core.Path.{_≡_, refl, sym, ap, _∙_, subst}
-use mathlib.Core.Logic.{_⊎_, inl, inr}
+use mathlib.Core.Path.{_≡_, refl, sym, ap, _∙_}
+use mathlib.Core.Logic.{inl, inr}
 use Prim.Native.Nat.{ℕ, zero, suc, _+_, _-_, _*_, _/_, _%_, _^_, _≤_, _<_, compare, Ordering, Ordering·lt, Ordering·eq, Ordering·gt}
 use native.Mathlib.Nat.{le-refl, le-trans, le-of-eq, le-of-lt, lt-of-lt-of-le, lt-of-le-of-lt, lt-of-not-le, not-le-of-lt, eq-zero-or-pos, mul-one, mul-comm, mul-assoc, mul-mul-mul-comm, add-mul, mul-le-mul, mul-le-mul-left, mul-le-mul-right, mul-lt-mul-of-pos-right, lt-of-mul-lt-mul-right, eq-of-mul-eq-mul-right, div-lt-iff-lt-mul, le-div-iff-mul-le, div-mul-le-self, pow-succ', mul-left-comm}
 use native.Mathlib.Omega.{arith}

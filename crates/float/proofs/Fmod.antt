@@ -1,23 +1,22 @@
 -- `rem` of two finite values is the remainder of their numbers of units, and the patterns order the magnitudes. Assumes nothing.
 use mathlib.Core.Path.{_≡_, refl, sym, ap, _∙_, subst}
-use Prim.Native.Nat.{ℕ, zero, suc, _+_, _-_, _*_, _/_, _%_, _^_, _≤_, _<_}
-use native.Mathlib.Nat.{le-trans, le-of-eq, le-of-lt, lt-of-lt-of-le, lt-of-le-of-lt, lt-irrefl, eq-zero-or-pos, zero-lt-suc, zero-mul, mul-pos, mul-assoc, mul-comm, mul-right-comm, mul-left-comm, mul-le-mul-left, mul-le-mul-right, mul-lt-mul-of-pos-right, mod-lt, mod-eq-of-lt, eq-of-mul-eq-mul-right}
+use Prim.Native.Nat.{ℕ, zero, suc, _+_, _-_, _*_, _%_, _^_, _≤_, _<_}
+use native.Mathlib.Nat.{le-trans, le-of-eq, le-of-lt, lt-of-lt-of-le, lt-irrefl, eq-zero-or-pos, zero-lt-suc, zero-mul, mul-pos, mul-assoc, mul-comm, mul-right-comm, mul-le-mul-left, mul-le-mul-right, mul-lt-mul-of-pos-right, mod-lt, mod-eq-of-lt, eq-of-mul-eq-mul-right}
 use native.Mathlib.Omega.{arith}
 use mathlib.Core.Logic.{inl, inr}
 use mathlib.Core.Bool.{Bool, true, false, not, cond}
 use lib.Dec.{T, eqb, eqb·suc-zero}
 use lib.IntN.{ℤ, pos}
-use lib.Pow.{pow-pos, pow-add, pow-mono, shl-lt}
+use lib.Pow.{pow-pos, pow-add, pow-mono}
 use lib.Ieee.{Float, nan, inf, fin, binary64, up, down, odd, round, rem, neg, ofBits, toBits, fits, isNan}
 use lib.Ieee.Exact.{HasValue, odd-sign, round-exact}
-use lib.Ieee.Fits.{up-pos, down-pos, odd-fits, rem-fits}
-use lib.Ieee.Positive.{first-pos}
+use lib.Ieee.Fits.{up-pos, down-pos, rem-fits}
 use lib.Ieee.Scale.{finite}
 use Rattle.float.specs.Bits.{magnitude, signBit, digits, place, partsOf}
 use Rattle.float.specs.declared.bits.Parts.{Parts}
-use Rattle.float.proofs.Pattern.{Placed, packed}
+use Rattle.float.proofs.Pattern.{Placed}
 use Rattle.float.proofs.Sign.{magnitude-of}
-use Rattle.float.proofs.Value.{same-value, HasParts, field-lt, taken, parts-value}
+use Rattle.float.proofs.Value.{same-value, field-lt, taken, parts-value}
 use Rattle.float.proofs.Modulo.{mul-mod-mul}
 use Rattle.float.proofs.Leading.{units-lt, odd-held}
 

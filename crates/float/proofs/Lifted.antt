@@ -1,9 +1,9 @@
 -- The arithmetic of `root_of`: from the digits and the place of a value to the pattern of its root. Assumes nothing.
-use mathlib.Core.Path.{_≡_, refl, sym, ap, _∙_, subst}
+use mathlib.Core.Path.{_≡_, sym, ap, _∙_}
 use Prim.Native.Nat.{ℕ, zero, suc, _+_, _-_, _*_, _/_, _%_, _^_, _≤_, _<_}
 use native.Mathlib.Nat.{le-trans, le-of-eq, le-of-lt, lt-of-lt-of-le, lt-of-le-of-lt, mul-one, mul-assoc, mul-le-mul-right, pow-succ', mul-left-comm}
 use native.Mathlib.Omega.{arith}
-use mathlib.Core.Bool.{Bool, false}
+use mathlib.Core.Bool.{false}
 use lib.Dec.{T, lit<, lit≤, ltb}
 use lib.Pow.{pow-add, pow-mono, shl-lt}
 use lib.Ieee.{binary64, odd, units, ofBits, fits, inf}
@@ -12,7 +12,7 @@ use lib.Ieee.Fits.{cond-fits, odd-fits, inf-fits}
 use Rattle.float.specs.Root.{wholeRoot, roundRoot}
 use Rattle.float.proofs.Pattern.{Placed, packed}
 use Rattle.float.proofs.Value.{same-value}
-use Rattle.float.proofs.Leading.{units-lt, odd-held, zeros, top, few, zeros-in, shift-exact}
+use Rattle.float.proofs.Leading.{units-lt, odd-held, zeros, top, zeros-in, shift-exact}
 use Rattle.float.proofs.WholeRoot.{sq-lt, whole-root}
 use Rattle.float.proofs.RoundRoot.{rounded}
 

@@ -1,7 +1,7 @@
 -- Remainders of products, and the running remainder of a shifted number. Assumes nothing.
-use mathlib.Core.Path.{_≡_, refl, sym, ap, _∙_}
+use mathlib.Core.Path.{_≡_, sym, ap, _∙_}
 use Prim.Native.Nat.{ℕ, _+_, _-_, _*_, _/_, _%_, _^_, _≤_, _<_}
-use native.Mathlib.Nat.{mul-assoc, mul-comm, mul-right-comm, add-mul, add-comm, div-add-mod', mod-lt, add-mul-mod-self-right, mul-lt-mul-of-pos-right}
+use native.Mathlib.Nat.{mul-assoc, mul-right-comm, add-mul, add-comm, div-add-mod', mod-lt, add-mul-mod-self-right, mul-lt-mul-of-pos-right}
 use native.Mathlib.Omega.{arith}
 use lib.Arith.{digits-mod}
 use lib.Pow.{pow-add}

@@ -8,11 +8,11 @@ use mathlib.Core.Bool.{Bool, false, _&&_}
 use lib.Dec.{T, leb, ltb, eqb, leb→le, ltb→lt, lit<}
 use lib.IntN.{ℤ, pos, negsuc}
 use lib.Pow.{pow-pos, pow-add, pow-mono, pow-lt}
-use lib.Ieee.{Float, fin, binary64, up, down, size, units, fits}
+use lib.Ieee.{Float, fin, binary64, up, down, size, fits}
 use lib.Ieee.Digits.{size-reaches}
 use lib.Ieee.Exact.{HasValue, units-val}
 use lib.Ieee.Fits.{and-l, and-r, nearest-le, down-pos}
-use Rattle.float.specs.Root.{inUnits, sqrt, roundRoot, wholeRoot, NearestRoot}
+use Rattle.float.specs.Root.{inUnits, sqrt, roundRoot, NearestRoot}
 use Rattle.float.proofs.WholeRoot.{whole-root, sq-lt}
 use Rattle.float.proofs.Closest.{Holds, w, k, q, kept, is-units, above, below}
 

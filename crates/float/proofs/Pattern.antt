@@ -1,6 +1,6 @@
 -- What a pattern of 64 bits stands for: a NaN, or the value of its sign, field and digits. Assumes nothing.
 use mathlib.Core.Path.{_≡_, refl, sym, ap, _∙_, subst}
-use Prim.Native.Nat.{ℕ, zero, suc, _+_, _-_, _*_, _/_, _%_, _^_, _≤_, _<_}
+use Prim.Native.Nat.{ℕ, zero, suc, _+_, _*_, _/_, _%_, _^_, _≤_, _<_}
 use native.Mathlib.Nat.{mod-eq-of-lt, not-le-of-lt, eq-zero-or-pos}
 use mathlib.Core.Logic.{inl, inr}
 use native.Mathlib.Omega.{arith}

@@ -1,9 +1,9 @@
 -- The tests of `sqrt`, and that it goes by the number of units. Assumes nothing.
 use mathlib.Core.Path.{_≡_, refl, sym, ap, _∙_, subst}
-use Prim.Native.Nat.{ℕ, zero, suc, _+_, _-_, _*_, _/_, _%_, _^_, _≤_, _<_}
+use Prim.Native.Nat.{ℕ, zero, suc, _+_, _*_, _/_, _^_, _<_}
 use native.Mathlib.Nat.{lt-irrefl, zero-mul, mul-pos, mul-div-cancel, zero-lt-suc}
 use native.Mathlib.Omega.{arith}
-use mathlib.Core.Bool.{Bool, true, false, not, _&&_, _||_, Bool·beq, true≢false}
+use mathlib.Core.Bool.{Bool, true, false, _&&_, _||_, Bool·beq, true≢false}
 use lib.Dec.{T, eqb, ltb, eqb→eq, ltb→lt, lt→ltb}
 use lib.IntN.{ℤ}
 use lib.Ieee.{Float, nan, inf, fin, binary64, up, down, ofBits, toBits, fits, eq, lt, ne}
@@ -12,7 +12,7 @@ use lib.Ieee.Exact.{HasValue}
 use lib.Ieee.Fits.{down-pos, up-pos, and-l}
 use lib.Ieee.Positive.{positive, positive-finite, first-pos, value-pos}
 use lib.Pow.{pow-pos}
-use Rattle.float.specs.Root.{inUnits, roundRoot, sqrt}
+use Rattle.float.specs.Root.{roundRoot, sqrt}
 use Rattle.float.specs.Bits.{digits, place}
 use Rattle.float.proofs.Pattern.{is-nan}
 use Rattle.float.proofs.Value.{HasParts, parts-value}

@@ -1,7 +1,7 @@
 -- The square of q, below 2 ^ 110, by its halves of 27 bits. Assumes nothing.
-use mathlib.Core.Path.{_≡_, refl, sym, ap, _∙_, subst}
-use Prim.Native.Nat.{ℕ, _+_, _-_, _*_, _/_, _%_, _^_, _≤_, _<_}
-use native.Mathlib.Nat.{le-of-lt, mul-le-mul, mul-comm, mul-assoc, mul-left-comm, mul-add, add-mul, add-assoc, add-comm, add-left-comm, div-add-mod'}
+use mathlib.Core.Path.{_≡_, refl, sym, ap, _∙_}
+use Prim.Native.Nat.{ℕ, _+_, _*_, _/_, _%_, _^_, _≤_, _<_}
+use native.Mathlib.Nat.{mul-le-mul, mul-comm, mul-assoc, mul-left-comm, mul-add, add-mul, add-assoc, add-comm, add-left-comm, div-add-mod'}
 use native.Mathlib.Omega.{arith}
 use mathlib.Core.Bool.{Bool, true, false}
 use lib.Dec.{leb, eqb}

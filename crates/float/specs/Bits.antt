@@ -1,6 +1,6 @@
 -- A float's sign bit, magnitude and pattern, over the values of `lib.Ieee`. Definitions only.
 -- `toBits` and `ofBits` are that file's: any NaN is written 7ff8000000000000, and every NaN pattern is read as a NaN.
-use Prim.Native.Nat.{ℕ, zero, suc, _+_, _-_, _/_, _%_, _^_}
+use Prim.Native.Nat.{ℕ, _+_, _-_, _/_, _%_, _^_}
 use mathlib.Core.Bool.{Bool, false, cond}
 use lib.Dec.{eqb}
 use lib.Ieee.{Float, nan, inf, fin}

@@ -1,6 +1,6 @@
 -- The square root of IEEE 754, over the values of `lib.Ieee`: the value of binary64 nearest to the exact root, ties to even.
 -- `NearestRoot` below says so without the definition's own steps; `nearest-root` of proofs/ shows it for every positive finite value.
-use Prim.Native.Nat.{ℕ, zero, suc, _+_, _-_, _*_, _/_, _^_, _≤_, _<_, compare}
+use Prim.Native.Nat.{ℕ, zero, suc, _+_, _-_, _*_, _/_, _^_, _<_, compare}
 use mathlib.Core.Bool.{true, false, cond}
 use lib.Dec.{T, leb}
 use lib.IntN.{ℤ}

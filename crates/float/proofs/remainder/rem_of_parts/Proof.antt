@@ -1,5 +1,5 @@
 -- `rem_of_parts` meets its contract.
-use mathlib.Core.Path.{_≡_, ap, _∙_, subst, sym}
+use mathlib.Core.Path.{ap, _∙_, subst, sym}
 use Prim.Native.Nat.{ℕ, _<_, _^_}
 use native.Mathlib.Nat.{mod-lt, lt-of-lt-of-le, le-of-lt}
 use mathlib.Core.Bool.{false}

@@ -1,10 +1,8 @@
 -- `at_most` meets its contract: the words of the square are compared from the top.
-use mathlib.Core.Path.{_≡_, refl, sym, ap, _∙_, subst}
+use mathlib.Core.Path.{refl, sym}
 use native.Mathlib.Omega.{arith}
-use borrow.Author.Tests.{le-leb, lt-leb, eq-eqb, ne-eqb}
-use Prim.Native.Nat.{ℕ, _+_, _*_, _/_, _%_, _^_, _≤_, _<_}
-use mathlib.Core.Bool.{Bool, true, false}
-use lib.Dec.{leb, eqb, leb→le, nleb→lt}
+use borrow.Author.Tests.{le-leb, lt-leb}
+use Prim.Native.Nat.{_*_, _^_, _≤_, _<_}
 use Rattle.float.proofs.Square.{halves, last}
 use Rattle.float.proofs.root.at_most.Statement.{statement}
 use Rattle.float.proofs.root.at_most.Tie as tie

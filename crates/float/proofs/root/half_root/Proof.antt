@@ -1,6 +1,6 @@
 -- `half_root` meets its contract: whichever number passes the test is the one.
-use mathlib.Core.Path.{_≡_, refl, sym, ap, _∙_}
-use Prim.Native.Nat.{ℕ, _+_, _-_, _*_, _/_, _^_}
+use mathlib.Core.Path.{sym, _∙_}
+use Prim.Native.Nat.{_+_, _-_, _*_, _^_}
 use native.Mathlib.Omega.{arith}
 use Rattle.float.proofs.WholeRoot.{half-is}
 use borrow.Author.Needs.{needs}

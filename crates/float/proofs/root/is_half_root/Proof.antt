@@ -1,5 +1,5 @@
 -- `is_half_root` meets its contract.
-use mathlib.Core.Path.{_≡_, refl, sym, ap, _∙_}
+use mathlib.Core.Path.{_≡_, sym, ap, _∙_}
 use mathlib.Core.Bool.{Bool, true, false, _&&_, not}
 use borrow.Author.Needs.{needs}
 use Rattle.float.proofs.root.is_half_root.Statement.{statement}

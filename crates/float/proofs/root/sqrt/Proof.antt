@@ -1,5 +1,5 @@
 -- `sqrt` meets its contract: the tests, in their order, leave the positive finite values.
-use mathlib.Core.Path.{_≡_, sym, ap, _∙_, subst}
+use mathlib.Core.Path.{sym, ap, _∙_, subst}
 use Prim.Native.Nat.{_*_, _^_}
 use lib.Dec.{T}
 use lib.Ieee.{binary64, toBits, fits}

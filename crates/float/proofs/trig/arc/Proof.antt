@@ -1,7 +1,6 @@
 -- `arc` meets its contract.
-use mathlib.Core.Path.{_≡_, refl, sym, ap, _∙_, subst}
 use Rattle.float.specs.Trig as spec
-use lib.Ieee.{Float, binary64, add, ofInt, ofBits}
+use lib.Ieee.{ofInt, ofBits}
 use borrow.Author.Needs.{needs}
 use Rattle.float.proofs.trig.arc.Statement.{statement}
 use Rattle.float.proofs.trig.arc.Tie as tie

@@ -1,5 +1,5 @@
 -- `arc_series` meets its contract.
-use mathlib.Core.Path.{_≡_, refl, sym, ap, _∙_, subst}
+use mathlib.Core.Path.{refl}
 use Rattle.float.specs.Trig as spec
 use lib.Ieee.{ofInt, ofBits, neg}
 use Rattle.float.proofs.trig.arc_series.Statement.{statement}

@@ -1,5 +1,5 @@
 -- `atan2` meets its contract.
-use mathlib.Core.Path.{_≡_, refl, sym, ap, _∙_, subst}
+use mathlib.Core.Path.{sym, ap, _∙_}
 use Rattle.float.specs.Trig as spec
 use Rattle.float.proofs.Pattern.{is-nan, not-nan}
 use Rattle.float.proofs.Tangent.{nan-left, nan-right, assemble}

@@ -1,5 +1,4 @@
 -- `cos` meets its contract.
-use mathlib.Core.Path.{_≡_, refl, sym, ap, _∙_, subst}
 use Rattle.float.specs.Trig as spec
 use borrow.Author.Needs.{needs}
 use Rattle.float.proofs.trig.cos.Statement.{statement}

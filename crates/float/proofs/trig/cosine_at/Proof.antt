@@ -1,5 +1,5 @@
 -- `cosine_at` meets its contract.
-use mathlib.Core.Path.{_≡_, refl, sym, ap, _∙_, subst}
+use mathlib.Core.Path.{sym, ap, _∙_}
 use Rattle.float.specs.Trig as spec
 use Prim.Native.Nat.{ℕ}
 use lib.Ieee.{neg}

@@ -1,5 +1,5 @@
 -- `cosine_series` meets its contract.
-use mathlib.Core.Path.{_≡_, refl}
+use mathlib.Core.Path.{refl}
 use lib.Ieee.{ofInt, ofBits, neg}
 use Rattle.float.proofs.trig.cosine_series.Statement.{statement}
 use Rattle.float.proofs.trig.cosine_series.Tie as tie

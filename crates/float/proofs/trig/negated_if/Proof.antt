@@ -1,5 +1,4 @@
 -- `negated_if` meets its contract.
-use mathlib.Core.Path.{_≡_, refl, sym, ap, _∙_, subst}
 use borrow.Author.Needs.{needs}
 use Rattle.float.proofs.trig.negated_if.Statement.{statement}
 use Rattle.float.proofs.trig.negated_if.Tie as tie

@@ -1,5 +1,5 @@
 -- `offset` meets its contract.
-use mathlib.Core.Path.{_≡_, refl, sym, ap, _∙_, subst}
+use mathlib.Core.Path.{refl}
 use Rattle.float.specs.Trig as spec
 use lib.Ieee.{ofInt, ofBits}
 use borrow.Author.Needs.{needs}

@@ -1,5 +1,4 @@
 -- `quarters` meets its contract.
-use mathlib.Core.Path.{_≡_, refl, sym, ap, _∙_, subst}
 use Rattle.float.specs.Trig as spec
 use Rattle.float.proofs.trig.quarters.Statement.{statement}
 use Rattle.float.proofs.trig.quarters.Tie as tie

@@ -1,7 +1,6 @@
 -- `quotient` meets its contract.
-use mathlib.Core.Path.{_≡_, refl, sym, ap, _∙_, subst}
 use Rattle.float.specs.Trig as spec
-use lib.Ieee.{ofInt, ofBits, div}
+use lib.Ieee.{ofInt, ofBits}
 use Rattle.float.proofs.trig.quotient.Statement.{statement}
 use Rattle.float.proofs.trig.quotient.Tie as tie
 

@@ -1,5 +1,5 @@
 -- `reduced` meets its contract.
-use mathlib.Core.Path.{_≡_, refl, sym, ap, _∙_, subst}
+use mathlib.Core.Path.{ap, _∙_}
 use Rattle.float.specs.Trig as spec
 use lib.Ieee.{Float, binary64, rem, ofInt, ofBits}
 use borrow.Author.Needs.{needs}
