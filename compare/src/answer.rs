@@ -1,5 +1,6 @@
 //! Answers in one comparable form; all NaN are one pattern.
 
+use crate::hexadecimal;
 use std::fmt;
 
 /// Document 01's number for a time that is not zero or more.
@@ -32,16 +33,22 @@ impl Outcome {
     }
 }
 
+/// The most floats of an answer: a matrix.
+const MOST: usize = 9;
+
 #[derive(Clone, Copy, PartialEq, Eq)]
 pub enum Answer {
-    Truth(bool),
+    /// Two digits: a truth, or one of a few cases.
+    Byte(u8),
     Word(u64),
+    /// So many words, the rest zero.
+    Words(usize, [u64; MOST]),
     Outcome(Outcome),
 }
 
 impl From<bool> for Answer {
     fn from(truth: bool) -> Self {
-        Answer::Truth(truth)
+        Answer::Byte(truth as u8)
     }
 }
 
@@ -57,30 +64,48 @@ impl From<u64> for Answer {
     }
 }
 
+impl<const N: usize> From<[f64; N]> for Answer {
+    fn from(floats: [f64; N]) -> Self {
+        let mut words = [0; MOST];
+        words[..N].copy_from_slice(&floats.map(bits));
+        Answer::Words(N, words)
+    }
+}
+
 impl From<Outcome> for Answer {
     fn from(outcome: Outcome) -> Self {
         Answer::Outcome(outcome)
     }
 }
 
-/// As `probe` writes it.
-impl fmt::Display for Answer {
-    fn fmt(&self, f: &mut fmt::Formatter) -> fmt::Result {
+impl Answer {
+    /// Appends the fields as `probe` writes them, with a space between two.
+    /// A refusal that left nanoseconds behind shows them, so that the fault is seen.
+    pub fn write(&self, text: &mut Vec<u8>) {
         match self {
-            Answer::Truth(truth) => write!(f, "{:02x}", *truth as u8),
-            Answer::Word(word) => write!(f, "{word:016x}"),
-            Answer::Outcome(outcome) => write!(f, "{outcome}"),
+            Answer::Byte(byte) => hexadecimal::append(text, *byte as u64, 2),
+            Answer::Word(word) => hexadecimal::append(text, *word, 16),
+            Answer::Words(count, words) => {
+                for (place, word) in words[..*count].iter().enumerate() {
+                    text.extend((place > 0).then_some(b' '));
+                    hexadecimal::append(text, *word, 16);
+                }
+            }
+            Answer::Outcome(outcome) => {
+                hexadecimal::append(text, outcome.number as u64, 2);
+                if outcome.number == 0 || outcome.nanoseconds != 0 {
+                    text.push(b' ');
+                    hexadecimal::append(text, outcome.nanoseconds, 16);
+                }
+            }
         }
     }
 }
 
-/// A refusal that left nanoseconds behind shows them, so that the fault is seen.
-impl fmt::Display for Outcome {
+impl fmt::Display for Answer {
     fn fmt(&self, f: &mut fmt::Formatter) -> fmt::Result {
-        write!(f, "{:02x}", self.number)?;
-        if self.number == 0 || self.nanoseconds != 0 {
-            write!(f, " {:016x}", self.nanoseconds)?;
-        }
-        Ok(())
+        let mut text = Vec::new();
+        self.write(&mut text);
+        f.write_str(&String::from_utf8_lossy(&text))
     }
 }

@@ -1,38 +1,8 @@
-//! The table of compared functions: one row gives number, arguments, inputs and both sides.
+//! The table of the float layer: one row gives number, arguments, inputs and both sides.
 
 use crate::answer::Answer;
-use crate::inputs::{self, Inputs, random::Random};
-use crate::{ours, reference, second};
-
-/// A call with its arguments as words.
-pub type Call = fn(&[u64]) -> Answer;
-
-pub struct Function {
-    /// `probe`'s number.
-    pub number: u8,
-    pub name: &'static str,
-    arity: usize,
-    inputs: &'static Inputs,
-    pub tested: Call,
-    pub reference: Call,
-}
-
-impl Function {
-    /// Hands over the boundaries, with neighbours up to so many steps away.
-    pub fn each_boundary(&self, reach: u32, meet: impl FnMut(&[u64])) {
-        self.inputs.boundaries(reach).iter().map(Vec::as_slice).for_each(meet);
-    }
-
-    /// Hands over so many inputs drawn from a stream.
-    pub fn each_drawn(&self, stream: u64, count: u64, mut meet: impl FnMut(&[u64])) {
-        let mut random = Random::new(stream);
-        let mut words = vec![0; self.arity];
-        for turn in 0..count {
-            self.inputs.draw(turn as usize, &mut random, &mut words);
-            meet(&words);
-        }
-    }
-}
+use crate::function::{Function, Linked};
+use crate::{inputs, ours, reference, second};
 
 /// An argument read from its word.
 pub trait Argument {
@@ -63,19 +33,22 @@ macro_rules! call {
 /// A row, with the module whose function of that name is tested and that of the reference.
 macro_rules! row {
     ($number:literal $name:ident($($argument:ident),+) $inputs:ident: $tested:ident, $reference:ident) => {
-        Function {
-            number: $number,
-            name: stringify!($name),
-            arity: [$(stringify!($argument)),+].len(),
-            inputs: &inputs::$inputs,
+        Linked {
+            function: Function {
+                number: $number,
+                name: stringify!($name),
+                arity: [$(stringify!($argument)),+].len(),
+                inputs: &inputs::$inputs,
+                examples: |_| Vec::new(),
+                reference: call!($reference::$name, $($argument),+),
+            },
             tested: call!($tested::$name, $($argument),+),
-            reference: call!($reference::$name, $($argument),+),
         }
     };
 }
 
 /// The proved functions against the Rust.
-pub const FUNCTIONS: &[Function] = &[
+pub const FUNCTIONS: &[Linked] = &[
     row!(0x01 sign_bit(x) FLOATS: ours, reference),
     row!(0x02 magnitude(x) FLOATS: ours, reference),
     row!(0x03 to_bits(x) FLOATS: ours, reference),
@@ -93,7 +66,7 @@ pub const FUNCTIONS: &[Function] = &[
 ];
 
 /// References against a second opinion on document 01's words.
-pub const CHECKS: &[Function] = &[
+pub const CHECKS: &[Linked] = &[
     row!(0x0a to_radians(x) FLOATS: reference, second),
     row!(0x0b to_degrees(x) FLOATS: reference, second),
     row!(0x0c from_seconds(t) SECONDS: reference, second),

@@ -1,12 +1,18 @@
-//! Inputs: a fixed list of boundaries for each function, then classes of drawn ones that take turns.
+//! Inputs: a fixed list of boundaries for each function, then classes of drawn ones that take
+//! turns.
 
 pub mod classes;
+mod corners;
 pub mod fixed;
 pub mod random;
+mod units;
+mod vectors;
 
 use classes::*;
 use random::Random;
 use std::collections::HashSet;
+use units::*;
+use vectors::*;
 
 pub struct Inputs {
     /// Boundaries with their neighbours up to so many steps away.
@@ -64,3 +70,79 @@ pub const HOURS: Inputs = Inputs {
 
 pub const NANOSECONDS: Inputs =
     Inputs { fixed: fixed::nanoseconds, classes: &[BITS, WIDTH, WHOLE_SECOND] };
+
+pub const NUMBERS: Inputs = Inputs {
+    fixed: corners::numbers,
+    classes: &[BITS, ORDINARY, SUBNORMAL, POWER, BOUND, EPSILON],
+};
+
+pub const NUMBER_PAIRS: Inputs = Inputs {
+    fixed: corners::number_pairs,
+    classes: &[BITS, ORDINARY, SUBNORMAL, MIXED, SPECIALS, CLOSE, SAME, EPSILON_APART],
+};
+
+pub const AMOUNTS: Inputs =
+    Inputs { fixed: corners::amounts, classes: &[BITS, ORDINARY, SUBNORMAL, POWER, BOUND, HUGE] };
+
+pub const FACTORS: Inputs = Inputs {
+    fixed: corners::factors,
+    classes: &[BITS, ORDINARY, SUBNORMAL, MIXED, SPECIALS, CLOSE, ANGLE_AND_END],
+};
+
+pub const AMOUNTS_OVER_TIME: Inputs = Inputs {
+    fixed: corners::amounts_over_time,
+    classes: &[BITS, OVER_TIME, MIXED_OVER_TIME, OVER_WHOLE_SECONDS],
+};
+
+pub const IN_DEGREES: Inputs = Inputs {
+    fixed: corners::degrees,
+    classes: &[BITS, ORDINARY, SUBNORMAL, POWER, BOUND, HUGE, DEGREES],
+};
+
+pub const IN_RADIANS: Inputs = Inputs {
+    fixed: corners::radians,
+    classes: &[BITS, ORDINARY, SUBNORMAL, BOUND, HUGE, EIGHTH, TURNED, JUST_BELOW_ZERO],
+};
+
+pub const ANGLE_PAIRS: Inputs = Inputs {
+    fixed: corners::angle_pairs,
+    classes: &[BITS, ORDINARY, SUBNORMAL, MIXED, MULTIPLE, CLOSE, MIXED_AND_END, ANGLE_AND_END],
+};
+
+pub const PLACES_IN_DEGREES: Inputs = Inputs {
+    fixed: corners::places_in_degrees,
+    classes: &[BITS, ORDINARY, MIXED, SPECIALS, DEGREES, POLAR_IN_DEGREES, PLACE_IN_DEGREES],
+};
+
+pub const PLACES: Inputs = Inputs {
+    fixed: corners::places_in_radians,
+    classes: &[BITS, ORDINARY, MIXED, SPECIALS, TURNED, EIGHTH, POLAR, PLACE],
+};
+
+/// What any vectors are drawn from, one or several.
+const ANY: [Draw; 10] =
+    [BITS, ORDINARY, SUBNORMAL, MIXED, SPECIALS, POSITIONS, EDGES, AXES, LEVEL, SIZED];
+const TOGETHER: [Draw; 13] = with(&[EQUAL, NEAR, CLOSE_BY]);
+const ON_A_CIRCLE: [Draw; 15] = with(&[EQUAL, NEAR, CLOSE_BY, COLLINEAR, TRIPLE]);
+const ROWS: [Draw; 11] = with(&[ROTATIONS]);
+
+/// The classes of any vectors, then more.
+const fn with<const N: usize>(more: &[Draw]) -> [Draw; N] {
+    let mut classes = [BITS; N];
+    let mut place = 0;
+    while place < N {
+        classes[place] = if place < ANY.len() { ANY[place] } else { more[place - ANY.len()] };
+        place += 1;
+    }
+    classes
+}
+
+pub const VECTORS: Inputs = Inputs { fixed: corners::vectors, classes: &ANY };
+pub const VECTORS_AND_ONE: Inputs = Inputs { fixed: corners::vectors_and_one, classes: &ANY };
+pub const VECTORS_AND_TWO: Inputs = Inputs { fixed: corners::vectors_and_two, classes: &ANY };
+pub const VECTOR_PAIRS: Inputs = Inputs { fixed: corners::vector_pairs, classes: &TOGETHER };
+pub const VECTOR_TRIPLES: Inputs = Inputs { fixed: corners::vector_triples, classes: &ON_A_CIRCLE };
+pub const MATRICES: Inputs = Inputs { fixed: corners::matrices, classes: &ROWS };
+pub const VECTORS_AND_MATRICES: Inputs =
+    Inputs { fixed: corners::vectors_and_matrices, classes: &ANY };
+pub const MATRIX_PAIRS: Inputs = Inputs { fixed: corners::matrix_pairs, classes: &ROWS };

@@ -1,26 +1,41 @@
 //! Holds the proved functions to their Rust references.
 
+// Without the original nobody draws its inputs.
+#![cfg_attr(not(original), allow(dead_code))]
+
 mod answer;
 mod distance;
+mod function;
 mod functions;
 mod ground;
+mod hexadecimal;
 mod inputs;
+#[cfg(original)]
+#[allow(dead_code, unused_imports, clippy::all)]
+mod jord;
 mod lines;
+#[cfg_attr(not(original), path = "absent.rs")]
+mod original;
 mod ours;
+mod piped;
 mod probe;
 mod reference;
 mod sample;
 mod scale;
 mod second;
+mod stream;
 mod time;
 
-use std::{env, process::ExitCode};
+use std::{env, io, process::ExitCode};
 
-const USAGE: &str = "usage: compare scale [N] | time | sample STDIN STDOUT | probe [N]";
+const USAGE: &str = "usage: compare scale [N] | time | jord [N] | sample STDIN STDOUT | probe [N]";
 const NOT_LINKED: &str =
     "no library: run `rt staticlib exports` in the repository's root, then build again";
+const NOT_BUILT: &str = "no original: put its source in ../../shared/docs/src, or name its folder \
+                         in JORD_SRC, then build again";
 /// Drawn inputs for each function, unless the command says otherwise.
 const SCALE: u64 = 10_000_000;
+const JORD: u64 = 1_000_000;
 const PROBE: u64 = 20_000;
 
 fn main() -> ExitCode {
@@ -40,6 +55,7 @@ fn main() -> ExitCode {
 fn run(words: &[&str]) -> Result<bool, String> {
     match words {
         ["scale" | "time", ..] if !ours::LINKED => Err(NOT_LINKED.into()),
+        ["jord" | "sample" | "probe", ..] if !original::BUILT => Err(NOT_BUILT.into()),
         ["scale", rest @ ..] => Ok(scale::run(count(rest, SCALE)?)),
         ["time"] => {
             time::run();
@@ -48,10 +64,15 @@ fn run(words: &[&str]) -> Result<bool, String> {
         ["sample", stdin, stdout] => sample::write(stdin, stdout)
             .map(|()| true)
             .map_err(|error| format!("the sample is not written: {error}")),
-        ["probe", rest @ ..] => probe::compare(count(rest, PROBE)?)
-            .map_err(|error| format!("target/bin/probe: {error}")),
+        ["jord", rest @ ..] => piped::compare(count(rest, JORD)?).map_err(unfit),
+        ["probe", rest @ ..] => probe::compare(count(rest, PROBE)?).map_err(unfit),
         _ => Err(USAGE.into()),
     }
+}
+
+/// The program could not be run.
+fn unfit(error: io::Error) -> String {
+    format!("target/bin/probe: {error}")
 }
 
 /// The one number handed over, or the usual one.

@@ -1,16 +1,17 @@
 //! Writes the stored sample: lines for `probe` and the reference's answers to them.
 
 use crate::inputs::random::SEED;
-use crate::lines;
+use crate::lines::{self, Script, Share};
 use std::{fs, io};
 
-const REACH: u32 = 1;
-const DRAWN: u64 = 96;
+const FLOATS: Share = Share { reach: 1, drawn: 96 };
+const ORIGINAL: Share = Share { reach: 0, drawn: 20 };
 
 pub fn write(stdin: &str, stdout: &str) -> io::Result<()> {
-    let script = lines::script(REACH, DRAWN);
-    fs::write(stdin, lines::text(script.iter().map(|exchange| &exchange.line)))?;
-    fs::write(stdout, lines::text(script.iter().map(|exchange| &exchange.answer)))?;
-    println!("seed {SEED:016x}, {} lines", script.len());
+    let mut script = Script::default();
+    lines::each(FLOATS, ORIGINAL, |line| script.add(line));
+    fs::write(stdin, &script.lines)?;
+    fs::write(stdout, &script.answers)?;
+    println!("seed {SEED:016x}, {} lines", script.count);
     Ok(())
 }

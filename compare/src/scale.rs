@@ -1,6 +1,7 @@
 //! Runs every function and its reference on many inputs and counts the differences.
 
-use crate::functions::{CHECKS, FUNCTIONS, Function};
+use crate::function::Linked;
+use crate::functions::{CHECKS, FUNCTIONS};
 use crate::inputs::random::SEED;
 use crate::{distance, lines};
 use std::thread;
@@ -15,9 +16,9 @@ pub fn run(count: u64) -> bool {
     println!("{:<28}{:>12}{:>12}", "function", "inputs", "differences");
     let mut equal = true;
     for (functions, note) in [(FUNCTIONS, ""), (CHECKS, " (reference)")] {
-        for function in functions {
-            let tally = compared(function, count);
-            tally.print(&format!("{}{note}", function.name));
+        for linked in functions {
+            let tally = compared(linked, count);
+            tally.print(&format!("{}{note}", linked.function.name));
             equal &= tally.differences == 0;
         }
     }
@@ -34,9 +35,9 @@ struct Tally {
 }
 
 impl Tally {
-    fn meet(&mut self, function: &Function, words: &[u64]) {
+    fn meet(&mut self, Linked { function, tested }: &Linked, words: &[u64]) {
         self.inputs += 1;
-        let (tested, reference) = ((function.tested)(words), (function.reference)(words));
+        let (tested, reference) = (tested(words), (function.reference)(words));
         if tested != reference {
             self.differences += 1;
             self.show(|| {
@@ -70,21 +71,21 @@ impl Tally {
 }
 
 /// The boundaries, then the drawn inputs, parted among the threads.
-fn compared(function: &Function, count: u64) -> Tally {
+fn compared(linked: &Linked, count: u64) -> Tally {
     let mut fixed = Tally::default();
-    function.each_boundary(REACH, |words| fixed.meet(function, words));
+    linked.function.each_fixed(REACH, |words| fixed.meet(linked, words));
     thread::scope(|scope| {
         let parts: Vec<_> = (1..=THREADS)
-            .map(|part| scope.spawn(move || drawn(function, part, count.div_ceil(THREADS))))
+            .map(|part| scope.spawn(move || drawn(linked, part, count.div_ceil(THREADS))))
             .collect();
         let join = |part: thread::ScopedJoinHandle<Tally>| part.join().expect("no function panics");
         parts.into_iter().map(join).fold(fixed, Tally::add)
     })
 }
 
-fn drawn(function: &Function, part: u64, count: u64) -> Tally {
+fn drawn(linked: &Linked, part: u64, count: u64) -> Tally {
     let mut tally = Tally::default();
-    let stream = part << 8 | function.number as u64;
-    function.each_drawn(stream, count, |words| tally.meet(function, words));
+    let stream = part << 8 | linked.function.number as u64;
+    linked.function.each_drawn(stream, count, |words| tally.meet(linked, words));
     tally
 }

@@ -1,7 +1,8 @@
 //! The classes that inputs are drawn from.
 
-use super::fixed::BOUNDS;
+use super::fixed::{BOUNDS, SPECIAL};
 use super::random::{Random, power};
+use super::vectors::{self, Group};
 use crate::ground;
 use crate::reference::{NANOSECONDS_AN_HOUR, TOO_MANY_SECONDS};
 use std::f64::consts::PI;
@@ -15,6 +16,10 @@ pub enum Draw {
     Float(fn(&mut Random) -> f64),
     /// Two floats that belong together.
     Pair(fn(&mut Random) -> [f64; 2]),
+    /// A float and nanoseconds.
+    Timed(fn(&mut Random) -> (f64, u64)),
+    /// Vectors that belong together, then single floats for what is left.
+    Vectors(Group),
 }
 
 impl Draw {
@@ -23,12 +28,19 @@ impl Draw {
             Draw::Word(draw) => words.fill_with(|| draw(random)),
             Draw::Float(draw) => words.fill_with(|| draw(random).to_bits()),
             Draw::Pair(draw) => words.copy_from_slice(&draw(random).map(f64::to_bits)),
+            Draw::Timed(draw) => {
+                let (x, nanoseconds) = draw(random);
+                words.copy_from_slice(&[x.to_bits(), nanoseconds]);
+            }
+            Draw::Vectors(group) => vectors::fill(group, random, words),
         }
     }
 }
 
 /// Every bit pattern alike.
 pub const BITS: Draw = Draw::Word(Random::next);
+/// Zeros, infinities, NaN and other special patterns.
+pub const SPECIALS: Draw = Draw::Word(|r| r.choose(SPECIAL));
 /// Sizes of everyday use.
 pub const ORDINARY: Draw = Draw::Float(ordinary);
 /// Either sign, any number of leading zeros.
@@ -76,7 +88,7 @@ pub const WIDTH: Draw = Draw::Word(|r| r.width(64));
 /// Whole seconds and nanoseconds about them.
 pub const WHOLE_SECOND: Draw = Draw::Word(near_whole_second);
 
-fn ordinary(r: &mut Random) -> f64 {
+pub fn ordinary(r: &mut Random) -> f64 {
     let size = r.choose(&[1e-3, 1.0, 4.0, 10.0, 360.0, 1e4, 1e6, 1e9]);
     r.within(-size, size)
 }
@@ -124,7 +136,7 @@ fn even_power(r: &mut Random) -> f64 {
     power(2 * (r.below(960) as i32 - 510))
 }
 
-fn mixed(r: &mut Random) -> f64 {
+pub fn mixed(r: &mut Random) -> f64 {
     let any = |r: &mut Random| f64::from_bits(r.next());
     r.choose(&[any, ordinary, subnormal, near_power, near_bound, huge, near_eighth])(r)
 }
@@ -171,7 +183,7 @@ fn near_half(r: &mut Random, unit: f64) -> f64 {
     r.near(x)
 }
 
-fn near_whole_second(r: &mut Random) -> u64 {
+pub fn near_whole_second(r: &mut Random) -> u64 {
     let whole = r.width(34) * 1_000_000_000;
     whole.wrapping_add(r.below(9)).wrapping_sub(4)
 }

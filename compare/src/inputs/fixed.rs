@@ -5,7 +5,7 @@ use crate::reference::{NANOSECONDS_AN_HOUR, TOO_MANY_NANOSECONDS, TOO_MANY_SECON
 use std::f64::consts::PI;
 
 /// Zeros, infinities, ends of the subnormals and normals, some ordinary numbers, NaN of both signs.
-const SPECIAL: &[u64] = &[
+pub const SPECIAL: &[u64] = &[
     0x0000_0000_0000_0000,
     0x8000_0000_0000_0000,
     0x7ff0_0000_0000_0000,
@@ -132,7 +132,7 @@ pub fn directions(reach: u32) -> Vec<Vec<u64>> {
 }
 
 /// Every special pattern with every other.
-fn pairs() -> Vec<Vec<u64>> {
+pub fn pairs() -> Vec<Vec<u64>> {
     let with_all =
         |first: &u64| SPECIAL.iter().map(|second| vec![*first, *second]).collect::<Vec<_>>();
     SPECIAL.iter().flat_map(with_all).collect()
@@ -146,18 +146,18 @@ fn halves(unit: f64) -> impl Iterator<Item = f64> {
 }
 
 /// Each float with either sign and its neighbours.
-fn around(floats: impl IntoIterator<Item = f64>, reach: u32) -> Vec<Vec<u64>> {
+pub fn around(floats: impl IntoIterator<Item = f64>, reach: u32) -> Vec<Vec<u64>> {
     around_positive(floats.into_iter().flat_map(|x| [x, -x]), reach)
 }
 
 /// Each float with its neighbours.
-fn around_positive(floats: impl IntoIterator<Item = f64>, reach: u32) -> Vec<Vec<u64>> {
+pub fn around_positive(floats: impl IntoIterator<Item = f64>, reach: u32) -> Vec<Vec<u64>> {
     let steps = -(reach as i32)..=reach as i32;
     let about = |x: f64| steps.clone().map(move |n| vec![neighbour(x, n).to_bits()]);
     floats.into_iter().flat_map(about).collect()
 }
 
-fn joined(mut first: Vec<Vec<u64>>, second: Vec<Vec<u64>>) -> Vec<Vec<u64>> {
+pub fn joined(mut first: Vec<Vec<u64>>, second: Vec<Vec<u64>>) -> Vec<Vec<u64>> {
     first.extend(second);
     first
 }

@@ -41,9 +41,13 @@ impl Random {
         from[self.below(from.len() as u64) as usize]
     }
 
+    pub fn coin(&mut self) -> bool {
+        self.next() & 1 == 0
+    }
+
     /// `x` with either sign.
     pub fn signed(&mut self, x: f64) -> f64 {
-        if self.next() & 1 == 0 { x } else { -x }
+        if self.coin() { x } else { -x }
     }
 
     /// `x` or a float near it.

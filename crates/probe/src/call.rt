@@ -2,9 +2,15 @@
 use crate::durations;
 use crate::fields;
 use crate::floats;
+use crate::great_circles;
+use crate::matrices;
+use crate::numbers;
+use crate::positions;
+use crate::units;
+use crate::vectors;
 
 // A call has this many arguments at most, and then this many bytes.
-const ARGUMENTS: usize = 16;
+const ARGUMENTS: usize = 18;
 
 pub const LONGEST: usize = 2 + 17 * ARGUMENTS;
 
@@ -16,6 +22,12 @@ fn arity(f: u64) -> usize {
     match f {
         0x01..=0x0b => floats::arity(f),
         0x0c..=0x0e => durations::arity(f),
+        0x10..=0x13 => numbers::arity(f),
+        0x14..=0x28 => units::arity(f),
+        0x30..=0x40 => vectors::arity(f),
+        0x41..=0x43 => matrices::arity(f),
+        0x50..=0x56 | 0x66 => positions::arity(f),
+        0x60..=0x65 => great_circles::arity(f),
         _ => UNKNOWN,
     }
 }
@@ -25,6 +37,12 @@ fn dispatch(f: u64, args: &[u64], page: &mut [u8], at: usize) -> usize {
     match f {
         0x01..=0x0b => floats::answer(f, args, page, at),
         0x0c..=0x0e => durations::answer(f, args, page, at),
+        0x10..=0x13 => numbers::answer(f, args, page, at),
+        0x14..=0x28 => units::answer(f, args, page, at),
+        0x30..=0x40 => vectors::answer(f, args, page, at),
+        0x41..=0x43 => matrices::answer(f, args, page, at),
+        0x50..=0x56 | 0x66 => positions::answer(f, args, page, at),
+        0x60..=0x65 => great_circles::answer(f, args, page, at),
         _ => fields::put_refusal(page, at),
     }
 }

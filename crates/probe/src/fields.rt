@@ -1,5 +1,9 @@
 // The fields of a line: arguments read from their bits, and results written over a page. Where the page has no room, nothing is written.
 use duration::Span;
+use jord::mat33::Mat33;
+use jord::positions::NVector;
+use jord::vec3::Vec3;
+use spherical::Side;
 
 // Argument k as a float, and zero where there is none.
 pub fn float_at(args: &[u64], k: usize) -> f64 {
@@ -12,6 +16,52 @@ pub fn whole_at(args: &[u64], k: usize) -> u64 {
         return 0;
     }
     args[k]
+}
+
+// The vector of the three arguments from k on.
+pub fn vec3_at(args: &[u64], k: usize) -> Vec3 {
+    Vec3::new(
+        float_past(args, k, 0),
+        float_past(args, k, 1),
+        float_past(args, k, 2),
+    )
+}
+
+// The matrix of the nine arguments from k on, row by row.
+pub fn mat33_at(args: &[u64], k: usize) -> Mat33 {
+    Mat33::new(
+        Vec3::new(
+            float_past(args, k, 0),
+            float_past(args, k, 1),
+            float_past(args, k, 2),
+        ),
+        Vec3::new(
+            float_past(args, k, 3),
+            float_past(args, k, 4),
+            float_past(args, k, 5),
+        ),
+        Vec3::new(
+            float_past(args, k, 6),
+            float_past(args, k, 7),
+            float_past(args, k, 8),
+        ),
+    )
+}
+
+// The position of the three arguments from k on.
+pub fn nvector_at(args: &[u64], k: usize) -> NVector {
+    NVector::new(vec3_at(args, k))
+}
+
+// The argument i places past k as a float, and zero where there is none.
+fn float_past(args: &[u64], k: usize, i: usize) -> f64 {
+    if k >= args.len() {
+        return 0.0;
+    }
+    if i >= args.len() - k {
+        return 0.0;
+    }
+    float_at(args, k + i)
 }
 
 // One byte at a place of the page, and the place past it.
@@ -60,6 +110,37 @@ pub fn put_span(page: &mut [u8], at: usize, s: Span) -> usize {
     }
     let next = put_gap(page, told);
     put_whole(page, next, s.nanoseconds())
+}
+
+// The three parts of a vector.
+pub fn put_vec3(page: &mut [u8], at: usize, v: Vec3) -> usize {
+    let x = put_float(page, at, v.x());
+    let y = put_float_after(page, x, v.y());
+    put_float_after(page, y, v.z())
+}
+
+// A gap, then a float.
+fn put_float_after(page: &mut [u8], at: usize, x: f64) -> usize {
+    let next = put_gap(page, at);
+    put_float(page, next, x)
+}
+
+// The three rows of a matrix.
+pub fn put_mat33(page: &mut [u8], at: usize, m: Mat33) -> usize {
+    let first = put_vec3(page, at, m.row0());
+    let second = put_gap(page, first);
+    let third = put_vec3(page, second, m.row1());
+    let last = put_gap(page, third);
+    put_vec3(page, last, m.row2())
+}
+
+// 00 Left, 01 Right, 02 Collinear.
+pub fn put_side(page: &mut [u8], at: usize, s: Side) -> usize {
+    match s {
+        Side::Left => put_short(page, at, 0),
+        Side::Right => put_short(page, at, 1),
+        Side::Collinear => put_short(page, at, 2),
+    }
 }
 
 // The answer to a line that asks for nothing.

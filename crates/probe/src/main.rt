@@ -3,8 +3,14 @@ mod call;
 mod durations;
 mod fields;
 mod floats;
+mod great_circles;
 mod lines;
+mod matrices;
+mod numbers;
 mod page;
+mod positions;
+mod units;
+mod vectors;
 
 use lines::Line;
 use lines::Turned;

@@ -5,10 +5,10 @@ use Rattle.probe.proofs.call.arguments.Statement.{statement}
 use Rattle.probe.proofs.call.arguments.Tie as tie
 
 abbrev Inv-loop : tie.InvT-loop
-Inv-loop line args₀ k₀ args k = k ≤ 16
+Inv-loop line args₀ k₀ args k = k ≤ 18
 
 abbrev μ-loop : tie.MeasureT-loop
-μ-loop line args₀ k₀ args k = 16 - k
+μ-loop line args₀ k₀ args k = 18 - k
 
 loop-holds : tie.Need-loop-holds Inv-loop μ-loop
 loop-holds c = omega arith

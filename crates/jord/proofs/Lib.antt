@@ -1,0 +1,4 @@
+pub mod Sum
+pub mod PlusZero
+pub mod Vectors
+pub mod Antipodes
