@@ -143,7 +143,7 @@ abbrev pub stableCrossProdUnit : Vec3 → Vec3 → Vec3
 stableCrossProdUnit v o = crossed newUnit (sums v o) (differences v o)
 
 -- "In `orthogonal` ties follow the `>` tests": ax > ay, ax > az, ay > az
-abbrev axisOf : Float → Float → Float → Vec3
+abbrev pub axisOf : Float → Float → Float → Vec3
 axisOf ax ay az = cond (lt ay ax) (cond (lt az ax) UNIT-Z UNIT-Y) (cond (lt az ay) UNIT-X UNIT-Y)
 
 -- tmp: over self.x().abs(), self.y().abs(), self.z().abs()

@@ -4,18 +4,23 @@ use crate::fields;
 use crate::floats;
 use crate::great_circles;
 use crate::matrices;
+use crate::means;
 use crate::numbers;
 use crate::positions;
+use crate::sphere;
 use crate::units;
 use crate::vectors;
 
 // A call has this many arguments at most, and then this many bytes.
-const ARGUMENTS: usize = 18;
+pub const ARGUMENTS: usize = 18;
 
 pub const LONGEST: usize = 2 + 17 * ARGUMENTS;
 
 // More arguments than a line has room for: how many a number takes that is no function's.
 const UNKNOWN: usize = 99;
+
+// The mean takes as many coordinates as there are.
+const MEAN: u64 = 0x79;
 
 // How many arguments the function of a number takes.
 fn arity(f: u64) -> usize {
@@ -28,12 +33,21 @@ fn arity(f: u64) -> usize {
         0x41..=0x43 => matrices::arity(f),
         0x50..=0x56 | 0x66 => positions::arity(f),
         0x60..=0x65 => great_circles::arity(f),
+        0x70..=0x78 | 0x7a => sphere::arity(f),
         _ => UNKNOWN,
     }
 }
 
+// Whether the function of a number takes n arguments.
+fn takes(f: u64, n: usize) -> bool {
+    if f == MEAN {
+        return n <= ARGUMENTS;
+    }
+    n == arity(f)
+}
+
 // The result fields, over the page from at on, and the place past them.
-fn dispatch(f: u64, args: &[u64], page: &mut [u8], at: usize) -> usize {
+fn dispatch(f: u64, args: &[u64], n: usize, page: &mut [u8], at: usize) -> usize {
     match f {
         0x01..=0x0b => floats::answer(f, args, page, at),
         0x0c..=0x0e => durations::answer(f, args, page, at),
@@ -43,6 +57,8 @@ fn dispatch(f: u64, args: &[u64], page: &mut [u8], at: usize) -> usize {
         0x41..=0x43 => matrices::answer(f, args, page, at),
         0x50..=0x56 | 0x66 => positions::answer(f, args, page, at),
         0x60..=0x65 => great_circles::answer(f, args, page, at),
+        0x70..=0x78 | 0x7a => sphere::answer(f, args, page, at),
+        MEAN => means::answer(args, n, page, at),
         _ => fields::put_refusal(page, at),
     }
 }
@@ -73,7 +89,7 @@ fn is_call(line: &[u8]) -> bool {
     if n % 17 != 2 {
         return false;
     }
-    if n / 17 != arity(hex::number_at(line, 0, 2)) {
+    if !takes(hex::number_at(line, 0, 2), n / 17) {
         return false;
     }
     is_laid_out(line)
@@ -102,5 +118,5 @@ fn answer_fields(line: &[u8], page: &mut [u8], at: usize) -> usize {
         return fields::put_refusal(page, at);
     }
     let args = arguments(line);
-    dispatch(hex::number_at(line, 0, 2), &args, page, at)
+    dispatch(hex::number_at(line, 0, 2), &args, line.len() / 17, page, at)
 }

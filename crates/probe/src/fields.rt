@@ -1,9 +1,13 @@
 // The fields of a line: arguments read from their bits, and results written over a page. Where the page has no room, nothing is written.
 use duration::Span;
+use jord::angle::Angle;
 use jord::mat33::Mat33;
 use jord::positions::NVector;
+use jord::speed::Speed;
 use jord::vec3::Vec3;
+use jord::vehicle::Vehicle;
 use spherical::Side;
+use spherical::outcome::Outcome;
 
 // Argument k as a float, and zero where there is none.
 pub fn float_at(args: &[u64], k: usize) -> f64 {
@@ -51,6 +55,15 @@ pub fn mat33_at(args: &[u64], k: usize) -> Mat33 {
 // The position of the three arguments from k on.
 pub fn nvector_at(args: &[u64], k: usize) -> NVector {
     NVector::new(vec3_at(args, k))
+}
+
+// The vehicle of the five arguments from k on: position, bearing in radians, speed in metres a second.
+pub fn vehicle_at(args: &[u64], k: usize) -> Vehicle {
+    Vehicle::new(
+        nvector_at(args, k),
+        Angle::from_radians(float_past(args, k, 3)),
+        Speed::from_metres_per_second(float_past(args, k, 4)),
+    )
 }
 
 // The argument i places past k as a float, and zero where there is none.
@@ -141,6 +154,15 @@ pub fn put_side(page: &mut [u8], at: usize, s: Side) -> usize {
         Side::Right => put_short(page, at, 1),
         Side::Collinear => put_short(page, at, 2),
     }
+}
+
+// The number, the nanoseconds and the count of an outcome.
+pub fn put_outcome(page: &mut [u8], at: usize, o: Outcome) -> usize {
+    let first = put_short(page, at, o.number() as u64);
+    let second = put_gap(page, first);
+    let third = put_whole(page, second, o.nanoseconds());
+    let last = put_gap(page, third);
+    put_short(page, last, o.count() as u64)
 }
 
 // The answer to a line that asks for nothing.

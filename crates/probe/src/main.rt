@@ -6,9 +6,11 @@ mod floats;
 mod great_circles;
 mod lines;
 mod matrices;
+mod means;
 mod numbers;
 mod page;
 mod positions;
+mod sphere;
 mod units;
 mod vectors;
 

@@ -1,1 +1,5 @@
 pub mod Sides
+pub mod Steps
+pub mod Positions
+pub mod Means
+pub mod Counts

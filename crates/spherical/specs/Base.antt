@@ -16,7 +16,7 @@ abbrev pub angleRadiansBetween : Vec3 → Vec3 → Float
 angleRadiansBetween v1 v2 = atan2 (vec3.norm (vec3.crossProd v1 v2)) (vec3.dotProd v1 v2)
 
 -- if d >= 0.0 { norm } else { -norm }, then atan2(cos_o)
-abbrev angleBy : Float → Float → Float → Float
+abbrev pub angleBy : Float → Float → Float → Float
 angleBy d norm cosO = cond (le zero d) (atan2 norm cosO) (atan2 (Ieee.neg norm) cosO)
 
 -- with d = p1xp2.dot_prod(vn)

@@ -1,3 +1,9 @@
 pub mod Base
 pub mod GreatCircle
+pub mod Course
+pub mod Walk
+pub mod Outcome
+pub mod Mean
+pub mod Sphere
+pub mod Counts
 pub mod Table

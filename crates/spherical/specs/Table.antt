@@ -1,12 +1,30 @@
--- Rows of document 01's table that concern this crate, and the working of the constant that is given by its bits.
+-- Rows of document 01's table that concern this crate, and the working of the constants that are given by their bits.
 use mathlib.Core.Path.{_≡_, refl}
+use mathlib.Core.List.{[], _∷_}
 use lib.Ieee as Ieee
-use lib.Ieee.{ofBits, ofInt}
-use Rattle.float.specs.Operators.{_⊗_, whole}
+use lib.Ieee.{neg, ofBits, ofInt}
+use Rattle.float.specs.Operators.{_⊗_, _⊘_, whole}
+use Rattle.float.specs.Root.{sqrt}
+use Rattle.float.specs.Trig.{sin, cos, atan2}
+use Rattle.jord.specs.Literal.{zero, one, minusOne}
 use Rattle.jord.specs.Numbers.{EPSILON}
 use Rattle.jord.specs.Vec3.{UNIT-X, UNIT-Y, UNIT-Z, NEG-UNIT-Y}
+use Rattle.jord.specs.Mat33 as mat33
+use Rattle.jord.specs.Angle as angle
+use Rattle.jord.specs.Length.{fromMetres}
+use Rattle.jord.specs.Speed as speed
+use Rattle.jord.specs.Positions.{nvectorNew, nvectorToLatlong}
+use Rattle.jord.specs.Vehicle as vehicle
+use Rattle.jord.specs.declared.vehicle.Vehicle.{Vehicle}
 use Rattle.spherical.specs.Base.{TRIAGE-SIDE-EPS, side}
+use Rattle.spherical.specs.Course.{course, courseRx, courseRy, courseRz}
+use Rattle.spherical.specs.Walk.{walk, cpaCoefficients, cpaNew, sinesAt, cpaFn, cpaDerivate, cpaStep, oneMilliHours}
+use Rattle.spherical.specs.Mean.{meanPosition, numberOf}
+use Rattle.spherical.specs.Sphere as sphere
+use Rattle.spherical.specs.Sphere.{timeToCpa}
 use Rattle.spherical.specs.declared.Side.the-variants.{Left, Right}
+use Rattle.spherical.specs.declared.mean.Mean.the-variants.{Position}
+use Rattle.spherical.specs.declared.outcome.Outcome.the-variants.{ZeroDerivative}
 
 -- "`side`(Z, X, Y) Left; (Z, Y, X) Right; (-Y, X, X) Left"
 pub side-left : side UNIT-Z UNIT-X UNIT-Y ≡ Left
@@ -22,6 +40,42 @@ pub side-equal-ends : side NEG-UNIT-Y UNIT-X UNIT-X ≡ Left
 unfolding side ofBits
 side-equal-ends = refl
 
+-- "Mean: none 16; X, -X 17; zero vector 17; X alone X"
+pub mean-of-none : numberOf (meanPosition []) ≡ 16
+unfolding meanPosition
+mean-of-none = refl
+
+pub mean-of-opposites : numberOf (meanPosition (one ∷ zero ∷ zero ∷ minusOne ∷ zero ∷ zero ∷ [])) ≡ 17
+unfolding meanPosition ofBits
+mean-of-opposites = refl
+
+pub mean-of-zero : numberOf (meanPosition (zero ∷ zero ∷ zero ∷ [])) ≡ 17
+unfolding meanPosition ofBits
+mean-of-zero = refl
+
+pub mean-of-one : meanPosition (one ∷ zero ∷ zero ∷ []) ≡ Position (nvectorNew UNIT-X)
+unfolding meanPosition ofBits
+mean-of-one = refl
+
+-- "one or two left over at the end count for nothing"
+pub mean-left-over : meanPosition (one ∷ zero ∷ zero ∷ minusOne ∷ zero ∷ []) ≡ Position (nvectorNew UNIT-X)
+unfolding meanPosition ofBits
+mean-left-over = refl
+
+-- "both vehicles at X with bearing and speed zero"
+abbrev atRest : Vehicle
+atRest = vehicle.new (nvectorNew UNIT-X) angle.ZERO speed.ZERO
+
+-- "Radius 1.0 ..: closest approach 12, count 1"
+pub cpa-at-rest : timeToCpa (sphere.new (fromMetres one)) atRest atRest ≡ ZeroDerivative 1
+unfolding timeToCpa walk course courseRx courseRy courseRz cpaCoefficients cpaNew sinesAt cpaFn cpaDerivate cpaStep mat33.mul mat33.vec3Mul nvectorToLatlong sqrt sin cos atan2 neg Ieee.lt Ieee.eq Ieee.add Ieee.sub Ieee.mul Ieee.div ofBits
+cpa-at-rest = refl
+
+-- ---- the constants
 pub triage-side-eps : TRIAGE-SIDE-EPS ≡ whole 10 ⊗ EPSILON
 unfolding Ieee.mul ofBits ofInt
 triage-side-eps = refl
+
+pub one-milli-hours : oneMilliHours ≡ whole 1 ⊘ (whole 3600 ⊗ whole 1000)
+unfolding Ieee.mul Ieee.div ofBits ofInt
+one-milli-hours = refl

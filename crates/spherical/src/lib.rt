@@ -1,6 +1,11 @@
 // The source's spherical folder: a module to a file.
 pub mod base;
+pub mod course;
 pub mod great_circle;
+pub mod mean;
+pub mod outcome;
+pub mod sphere;
+pub mod walk;
 
 // Where a point lies with respect to a great circle.
 pub enum Side {

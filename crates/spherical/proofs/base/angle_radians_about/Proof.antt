@@ -1,23 +1,18 @@
 -- `angle_radians_about` meets its contract.
-use Rattle.spherical.specs.Base.{angleRadiansAbout}
+use mathlib.Core.Path.{_≡_}
+use Rattle.spherical.specs.Base.{angleBy, angleRadiansAbout}
 use Rattle.spherical.proofs.base.angle_radians_about.Statement.{statement}
 use Rattle.spherical.proofs.base.angle_radians_about.Tie as tie
 
-positive : tie.Need-returns
+by-sign : (c : tie.After-dot-prod2) → angleRadiansAbout (c .before .before .before .before .args .v1) (c .before .before .before .before .args .v2) (c .before .before .before .before .args .vn) ≡ angleBy (c .before .dot-prod .result) (c .before .before .norm .result) (c .dot-prod2 .result)
 unfolding angleRadiansAbout
-positive c =
-    let k = c .before in
-    let x = k .before .before .before .before .cross-prod .ensures in
-    let sign = rw (k .before .before .dot-prod .ensures, x) at (k .if1 .taken) in
-    rw (sign, c .atan2 .ensures, k .before .dot-prod2 .ensures, k .before .before .before .norm .ensures, x)
+by-sign c = rw (c .dot-prod2 .ensures, c .before .dot-prod .ensures, c .before .before .norm .ensures, c .before .before .before .cross-prod .ensures)
+
+positive : tie.Need-returns
+positive c = rw (by-sign (c .before .before), c .before .if1 .taken) (c .atan2 .ensures)
 
 negative : tie.Need-returns-2
-unfolding angleRadiansAbout
-negative c =
-    let k = c .before in
-    let x = k .before .before .before .before .cross-prod .ensures in
-    let sign = rw (k .before .before .dot-prod .ensures, x) at (k .if1 .left) in
-    rw (sign, c .atan22 .ensures, k .before .dot-prod2 .ensures, k .before .before .before .norm .ensures, x)
+negative c = rw (by-sign (c .before .before), c .before .if1 .left) (c .atan22 .ensures)
 
 pub angle-radians-about-spec : {M : Type 1} → statement M
 angle-radians-about-spec = tie.close (tie.spec (λ c κs. tt) (λ c κs. tt) (λ c κs. tt) (λ c κs. tt) (λ c κs. tt) (λ c κs. tt) positive negative)

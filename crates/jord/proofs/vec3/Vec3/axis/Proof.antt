@@ -1,23 +1,24 @@
 -- `axis` meets its contract.
-use Rattle.jord.specs.Vec3.{axis}
+use mathlib.Core.Path.{_≡_}
+use Rattle.jord.specs.Vec3.{axis, axisOf}
 use Rattle.jord.proofs.vec3.Vec3.axis.Statement.{statement}
 use Rattle.jord.proofs.vec3.Vec3.axis.Tie as tie
 
-x-largest : tie.Need-returns
+by-size : (c : tie.After-magnitude3) → axis (c .before .before .before .args .self) ≡ axisOf (c .before .before .magnitude .result) (c .before .magnitude2 .result) (c .magnitude3 .result)
 unfolding axis
-x-largest c = rw (← c .before .before .magnitude3 .ensures, ← c .before .before .before .magnitude2 .ensures, ← c .before .before .before .before .magnitude .ensures, c .before .if1 .taken, c .if2 .taken)
+by-size c = rw (c .magnitude3 .ensures, c .before .magnitude2 .ensures, c .before .before .magnitude .ensures)
+
+x-largest : tie.Need-returns
+x-largest c = rw (by-size (c .before .before), c .before .if1 .taken, c .if2 .taken)
 
 z-over-x : tie.Need-returns-2
-unfolding axis
-z-over-x c = rw (← c .before .before .magnitude3 .ensures, ← c .before .before .before .magnitude2 .ensures, ← c .before .before .before .before .magnitude .ensures, c .before .if1 .taken, c .if2 .left)
+z-over-x c = rw (by-size (c .before .before), c .before .if1 .taken, c .if2 .left)
 
 y-largest : tie.Need-returns-3
-unfolding axis
-y-largest c = rw (← c .before .before .magnitude3 .ensures, ← c .before .before .before .magnitude2 .ensures, ← c .before .before .before .before .magnitude .ensures, c .before .if1 .left, c .if3 .taken)
+y-largest c = rw (by-size (c .before .before), c .before .if1 .left, c .if3 .taken)
 
 z-over-y : tie.Need-returns-4
-unfolding axis
-z-over-y c = rw (← c .before .before .magnitude3 .ensures, ← c .before .before .before .magnitude2 .ensures, ← c .before .before .before .before .magnitude .ensures, c .before .if1 .left, c .if3 .left)
+z-over-y c = rw (by-size (c .before .before), c .before .if1 .left, c .if3 .left)
 
 pub axis-spec : {M : Type 1} → statement M
 axis-spec = tie.close (tie.spec (λ c κs. tt) (λ c κs. tt) (λ c κs. tt) x-largest z-over-x y-largest z-over-y)

@@ -1,0 +1,42 @@
+-- The mean of coordinates by their number and by the question 17. Assumes nothing.
+use mathlib.Core.Path.{_≡_, ap, _∙_}
+use mathlib.Core.Bool.{true, false, false≢true}
+use mathlib.Core.List.{List, [], _∷_}
+use Prim.Native.Nat.{_≤_, _<_}
+use native.Mathlib.Omega.{arith}
+use lib.ListN.{length, drop}
+use lib.Ieee.{Float}
+use Rattle.jord.specs.Positions.{nvectorNew}
+use Rattle.jord.specs.declared.positions.NVector.{NVector}
+use Rattle.spherical.specs.Mean.{containsAntipodal, vec3Mean, meanOf, positions, positionAt, meanPosition}
+use Rattle.spherical.specs.declared.mean.Mean.the-variants.{Position, Empty, Antipodal}
+use Rattle.spherical.proofs.Positions.{positions-on, positions-few, positions-out}
+
+antipodal-of : (ps : List NVector) → containsAntipodal ps ≡ true → meanOf ps ≡ Antipodal
+antipodal-of [] e = absurd (false≢true e)
+antipodal-of (p ∷ l) e = rw e
+
+one-of : (ps : List NVector) (p : NVector) → ps ≡ p ∷ [] → containsAntipodal ps ≡ false → meanOf ps ≡ Position p
+one-of ps p s e = rw s (rw (rw s at e))
+
+more-of : (ps : List NVector) (p q : NVector) (l : List NVector) → ps ≡ p ∷ q ∷ l → containsAntipodal ps ≡ false → meanOf ps ≡ Position (nvectorNew (vec3Mean ps))
+more-of ps p q l s e = rw s (rw (rw s at e))
+
+module _ (cs : List Float) where
+  pub mean-empty : length cs < 3 → meanPosition cs ≡ Empty
+  unfolding meanPosition
+  mean-empty h = ap meanOf (positions-few cs h)
+
+  pub mean-antipodal : containsAntipodal (positions cs) ≡ true → meanPosition cs ≡ Antipodal
+  unfolding meanPosition
+  mean-antipodal e = antipodal-of (positions cs) e
+
+  pub mean-one : 3 ≤ length cs → length cs < 6 → containsAntipodal (positions cs) ≡ false → meanPosition cs ≡ Position (positionAt cs 0)
+  unfolding meanPosition
+  mean-one h k e =
+      one-of (positions cs) (positionAt cs 0) (positions-on cs 0 (omega arith) ∙ ap (λ (l : List NVector). positionAt cs 0 ∷ l) (positions-out cs 1 (omega arith))) e
+
+  pub mean-more : 6 ≤ length cs → containsAntipodal (positions cs) ≡ false → meanPosition cs ≡ Position (nvectorNew (vec3Mean (positions cs)))
+  unfolding meanPosition
+  mean-more h e =
+      more-of (positions cs) (positionAt cs 0) (positionAt cs 1) (positions (drop 6 cs)) (positions-on cs 0 (omega arith) ∙ ap (λ (l : List NVector). positionAt cs 0 ∷ l) (positions-on cs 1 (omega arith))) e

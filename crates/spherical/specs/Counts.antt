@@ -1,0 +1,52 @@
+-- What the laws of proofs/Counts say of the walks: which step a count names, and what that step found. Definitions only.
+use mathlib.Core.Path.{_≡_}
+use mathlib.Core.Bool.{Bool, true, false}
+use Prim.Native.Nat.{ℕ, zero, suc, _+_, _-_, _≤_, _<_}
+use lib.Ieee.{Float}
+use Rattle.duration.specs.declared.Span.{Span}
+use Rattle.duration.specs.declared.Span.the-variants.{Nanoseconds}
+use Rattle.spherical.specs.Walk.{mostSteps}
+use Rattle.spherical.specs.declared.walk.Step.{Step}
+use Rattle.spherical.specs.declared.walk.Step.the-variants as step
+use Rattle.spherical.specs.declared.walk.Walk.{Walk}
+use Rattle.spherical.specs.declared.walk.Walk.the-variants as walked
+
+-- "A count is the steps begun, 1 to 50"
+pub record Counted (count : ℕ) : Type 0 where
+  pub some : 1 ≤ count
+  pub most : count ≤ mostSteps
+
+-- the time of the step that follows a step s at t; t itself where s ends the walk
+abbrev pub after : Float → Step → Float
+after t (step.Accepted u) = t
+after t step.ZeroDerivative = t
+after t (step.Next u) = u
+
+-- the time after k steps f from t
+abbrev pub timeAfter : (Float → Step) → Float → ℕ → Float
+timeAfter f t zero = t
+timeAfter f t (suc k) = timeAfter f (after t (f t)) k
+
+-- whether the walk goes on after a step
+abbrev pub goesOn : Step → Bool
+goesOn (step.Accepted t) = false
+goesOn step.ZeroDerivative = false
+goesOn (step.Next t) = true
+
+-- the steps f from t go on up to the step of this count, which finds s
+pub record Ends (f : Float → Step) (t : Float) (count : ℕ) (s : Step) : Type 0 where
+  pub counted : Counted count
+  pub finds : f (timeAfter f t (count - 1)) ≡ s
+  pub before : (i : ℕ) → i + 1 < count → goesOn (f (timeAfter f t i)) ≡ true
+
+-- what the outcome of a walk by the steps f from t says of them
+abbrev pub Told : (Float → Step) → Float → Walk → Type 0
+Told f t (walked.Accepted u count) = Ends f t count (step.Accepted u)
+Told f t (walked.ZeroDerivative count) = Ends f t count step.ZeroDerivative
+Told f t walked.NotConverged = (i : ℕ) → i < mostSteps → goesOn (f (timeAfter f t i)) ≡ true
+
+-- the step of this count accepts a time whose duration is ns nanoseconds
+pub record FoundAt (duration : Float → Span) (f : Float → Step) (t : Float) (ns count : ℕ) : Type 0 where
+  pub time : Float
+  pub ends : Ends f t count (step.Accepted time)
+  pub lasts : duration time ≡ Nanoseconds ns

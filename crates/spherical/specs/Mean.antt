@@ -1,0 +1,86 @@
+-- `mean_position` of sphere.rs, over a list of positions, and the positions that coordinates stand for. Definitions only.
+use Prim.Native.Nat.{ℕ, _+_, _*_}
+use mathlib.Core.Bool.{Bool, false, cond, _||_}
+use mathlib.Core.List.{List, [], _∷_}
+use lib.ListN.{getD}
+use lib.Ieee as Ieee
+use lib.Ieee.{Float, nan}
+use Rattle.float.specs.Operators.{_⊕_}
+use Rattle.jord.specs.Vec3 as vec3
+use Rattle.jord.specs.Positions.{nvectorNew, asVec3, antipode, eq}
+use Rattle.jord.specs.declared.vec3.Vec3.{Vec3}
+use Rattle.jord.specs.declared.positions.NVector.{NVector}
+use Rattle.spherical.specs.declared.mean.Mean.{Mean}
+use Rattle.spherical.specs.declared.mean.Mean.the-variants.{Position, Empty, Antipodal}
+
+-- the number of an answer; 0 is done
+abbrev pub numberOf : Mean → ℕ
+numberOf (Position p) = 0
+numberOf Empty = 16
+numberOf Antipodal = 17
+
+-- ---- lists
+
+-- whether f says yes of an entry
+abbrev pub any : {A : Type 0} → (A → Bool) → List A → Bool
+any f [] = false
+any f (a ∷ l) = f a || any f l
+
+-- b, and then f with each entry in the order of the list
+abbrev pub fold : {A B : Type 0} → (B → A → B) → B → List A → B
+fold f b [] = b
+fold f b (a ∷ l) = fold f (f b a) l
+
+-- ---- the mean
+
+-- an entry "equal, component by component", to a
+abbrev pub contains : NVector → List NVector → Bool
+contains a ps = any (λ p. eq p a) ps
+
+-- "an entry equal, component by component, to the negation of an entry, itself included"
+abbrev pub containsAntipodal : List NVector → Bool
+containsAntipodal ps = any (λ p. contains (antipode p) ps) ps
+
+-- x += v.x(), y += v.y(), z += v.z()
+abbrev pub plus : Vec3 → NVector → Vec3
+plus s p = vec3.parts (s .x ⊕ asVec3 p .x) (s .y ⊕ asVec3 p .y) (s .z ⊕ asVec3 p .z)
+
+-- the sums start at 0.0 and go in the order of the list
+abbrev pub sum : List NVector → Vec3
+sum ps = fold plus vec3.ZERO ps
+
+-- Vec3::new_unit(x, y, z)
+abbrev along : Vec3 → Vec3
+along s = vec3.newUnit (s .x) (s .y) (s .z)
+
+-- `Vec3::mean`
+abbrev pub vec3Mean : List NVector → Vec3
+vec3Mean ps = along (sum ps)
+
+-- one position is its own mean; of more it is the unit vector along the sums
+abbrev pub meanFrom : NVector → List NVector → NVector
+meanFrom p [] = p
+meanFrom p (q ∷ l) = nvectorNew (vec3Mean (p ∷ q ∷ l))
+
+-- "Mean: is the list non-empty? 16. Is no entry equal, component by component, to the negation of an entry, itself included? 17"
+abbrev pub meanOf : List NVector → Mean
+meanOf [] = Empty
+meanOf (p ∷ l) = cond (containsAntipodal (p ∷ l)) Antipodal (Position (meanFrom p l))
+
+-- ---- coordinates
+
+-- "Coordinates come three to a position; one or two left over at the end count for nothing"; each position through `Vec3::new`
+abbrev pub positions : List Float → List NVector
+positions [] = []
+positions (x ∷ []) = []
+positions (x ∷ y ∷ []) = []
+positions (x ∷ y ∷ z ∷ cs) = nvectorNew (vec3.new x y z) ∷ positions cs
+
+-- the i-th of them, where there are as many
+abbrev pub positionAt : List Float → ℕ → NVector
+positionAt cs i = nvectorNew (vec3.new (getD cs (3 * i) nan) (getD cs (3 * i + 1) nan) (getD cs (3 * i + 2) nan))
+
+-- "`mean_position` over a lent list of positions first takes coordinates"
+unfoldable pub meanPosition : List Float → Mean
+unfolding vec3.newUnit Ieee.add Ieee.eq Ieee.neg
+meanPosition cs = meanOf (positions cs)
