@@ -34,6 +34,21 @@ const UNPUBLISHED: (&str, &str, &str) = ("spherical/minor_arc.rs", "{ChordLength
 /// Left out of the same file, for the same reason.
 const CUT_METHOD: &str = "    pub fn distance_to(";
 
+/// A second copy of one file, whose walks note what they do.
+const WATCHED: (&str, &str) = ("spherical/sphere.rs", "spherical/watched.rs");
+/// What stands in that file so many times, and the same with a note.
+const WATCHES: [(&str, &str, usize); 7] = [
+    ("move |t: f64| -> f64 {", "move |t: f64| -> f64 { watch::time(t);", 2),
+    ("move |t_secs: f64| -> f64 {", "move |t_secs: f64| -> f64 { watch::time(t_secs);", 1),
+    ("let fi = f / df;", "let fi = watch::correction(f / df);", 2),
+    ("if d == 0.0 {", "if d == 0.0 { watch::flat();", 1),
+    ("return Some(x);", "return Some(watch::accepted(x));", 1),
+    ("-1.0 // no convergence", "watch::spent(-1.0) // no convergence", 2),
+    ("Some(Duration::from_secs_f64(t_intercept_secs))", "watch::duration(t_intercept_secs)", 2),
+];
+/// On its first line.
+const WATCH_IN_SCOPE: &str = "use crate::jord::watch; ";
+
 /// No function that the standard library leaves to the platform may be called.
 const FOREIGN: [&str; 24] = [
     "sin", "cos", "tan", "sin_cos", "asin", "acos", "atan", "atan2", "sinh", "cosh", "tanh",
@@ -51,8 +66,15 @@ pub fn transform(source: &Path, folder: &Path) {
         let module = transformed(file, &text);
         assert_eq!(foreign(&module), None, "{file} still calls a function of the platform");
         assert_eq!(module.lines().count(), text.lines().count(), "{file} has lost its lines");
-        fs::write(folder.join(file), module).expect("the build's folder takes a file");
+        if file == WATCHED.0 {
+            write(folder, WATCHED.1, watched(&module));
+        }
+        write(folder, file, module);
     }
+}
+
+fn write(folder: &Path, file: &str, module: String) {
+    fs::write(folder.join(file), module).expect("the build's folder takes a file");
 }
 
 fn transformed(file: &str, text: &str) -> String {
@@ -73,6 +95,15 @@ fn line(text: &str) -> String {
         code.insert_str(code.len() - code.trim_start().len(), "pub(crate) ");
     }
     code + comment
+}
+
+/// The module with the notes, each in the place meant for it.
+fn watched(module: &str) -> String {
+    let noted = WATCHES.iter().fold(module.to_owned(), |text, (theirs, ours, times)| {
+        assert_eq!(text.matches(theirs).count(), *times, "{theirs} is not there {times} times");
+        text.replace(theirs, ours)
+    });
+    WATCH_IN_SCOPE.to_owned() + &noted
 }
 
 /// Without what needs an unpublished type.

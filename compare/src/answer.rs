@@ -3,10 +3,16 @@
 use crate::hexadecimal;
 use std::fmt;
 
+/// Document 01's numbers for a derivative that is zero and for fifty steps spent.
+pub const FLAT: u8 = 12;
+pub const NOT_ACCEPTED: u8 = 13;
 /// Document 01's number for a time that is not zero or more.
 pub const NOT_ZERO_OR_MORE: u8 = 14;
 /// Document 01's number for a time that is not below 2^34 seconds.
 pub const TOO_LONG: u8 = 15;
+/// Document 01's numbers for a mean of nothing and of antipodal entries.
+pub const EMPTY: u8 = 16;
+pub const ANTIPODAL: u8 = 17;
 
 /// The pattern that stands for every NaN.
 const NAN: u64 = 0x7ff8_0000_0000_0000;
@@ -36,7 +42,15 @@ impl Outcome {
 /// The most floats of an answer: a matrix.
 const MOST: usize = 9;
 
-#[derive(Clone, Copy, PartialEq, Eq)]
+/// A walk's outcome with its steps begun.
+#[derive(Clone, Copy, PartialEq, Eq, Debug)]
+pub struct Walk {
+    pub number: u8,
+    pub nanoseconds: u64,
+    pub count: u8,
+}
+
+#[derive(Clone, PartialEq, Eq)]
 pub enum Answer {
     /// Two digits: a truth, or one of a few cases.
     Byte(u8),
@@ -44,6 +58,9 @@ pub enum Answer {
     /// So many words, the rest zero.
     Words(usize, [u64; MOST]),
     Outcome(Outcome),
+    Walk(Walk),
+    /// Several, one after another.
+    Row(Vec<Answer>),
 }
 
 impl From<bool> for Answer {
@@ -78,6 +95,12 @@ impl From<Outcome> for Answer {
     }
 }
 
+impl From<Walk> for Answer {
+    fn from(walk: Walk) -> Self {
+        Answer::Walk(walk)
+    }
+}
+
 impl Answer {
     /// Appends the fields as `probe` writes them, with a space between two.
     /// A refusal that left nanoseconds behind shows them, so that the fault is seen.
@@ -96,6 +119,19 @@ impl Answer {
                 if outcome.number == 0 || outcome.nanoseconds != 0 {
                     text.push(b' ');
                     hexadecimal::append(text, outcome.nanoseconds, 16);
+                }
+            }
+            Answer::Walk(walk) => {
+                hexadecimal::append(text, walk.number as u64, 2);
+                text.push(b' ');
+                hexadecimal::append(text, walk.nanoseconds, 16);
+                text.push(b' ');
+                hexadecimal::append(text, walk.count as u64, 2);
+            }
+            Answer::Row(answers) => {
+                for (place, answer) in answers.iter().enumerate() {
+                    text.extend((place > 0).then_some(b' '));
+                    answer.write(text);
                 }
             }
         }

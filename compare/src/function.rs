@@ -10,7 +10,8 @@ pub struct Function {
     /// `probe`'s number.
     pub number: u8,
     pub name: &'static str,
-    /// How many words it takes.
+    /// How many words it takes, at least and at most.
+    pub fewest: usize,
     pub arity: usize,
     pub inputs: &'static Inputs,
     /// The documented examples of the function with a number.
@@ -37,8 +38,16 @@ impl Function {
         let mut random = Random::new(stream);
         let mut words = vec![0; self.arity];
         for turn in 0..count {
-            self.inputs.draw(turn as usize, &mut random, &mut words);
-            meet(&words);
+            let length = self.length(&mut random);
+            self.inputs.draw(turn as usize, &mut random, &mut words[..length]);
+            meet(&words[..length]);
+        }
+    }
+
+    fn length(&self, random: &mut Random) -> usize {
+        match self.arity - self.fewest {
+            0 => self.arity,
+            more => self.fewest + random.below(more as u64 + 1) as usize,
         }
     }
 }

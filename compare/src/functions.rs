@@ -37,6 +37,7 @@ macro_rules! row {
             function: Function {
                 number: $number,
                 name: stringify!($name),
+                fewest: [$(stringify!($argument)),+].len(),
                 arity: [$(stringify!($argument)),+].len(),
                 inputs: &inputs::$inputs,
                 examples: |_| Vec::new(),

@@ -5,8 +5,10 @@ pub mod classes;
 mod corners;
 pub mod fixed;
 pub mod random;
+mod scene_corners;
+pub mod scenes;
 mod units;
-mod vectors;
+pub mod vectors;
 
 use classes::*;
 use random::Random;
@@ -146,3 +148,38 @@ pub const MATRICES: Inputs = Inputs { fixed: corners::matrices, classes: &ROWS }
 pub const VECTORS_AND_MATRICES: Inputs =
     Inputs { fixed: corners::vectors_and_matrices, classes: &ANY };
 pub const MATRIX_PAIRS: Inputs = Inputs { fixed: corners::matrix_pairs, classes: &ROWS };
+
+/// Classes of vectors with a radius ahead.
+const fn led<const N: usize>(mut classes: [Draw; N]) -> [Draw; N] {
+    let mut place = 0;
+    while place < N {
+        classes[place] = classes[place].led();
+        place += 1;
+    }
+    classes
+}
+
+pub const RADIUS_AND_PAIRS: Inputs =
+    Inputs { fixed: corners::radius_and_pairs, classes: &led(TOGETHER) };
+pub const RADIUS_AND_TRIPLES: Inputs =
+    Inputs { fixed: corners::radius_and_triples, classes: &led(ON_A_CIRCLE) };
+
+const ENTRY_CLASSES: [Draw; 17] = with(&[EQUAL, NEAR, CLOSE_BY, ENTRIES, ENTRIES, SWARM, SWARM]);
+pub const MEANS: Inputs = Inputs { fixed: corners::means, classes: &ENTRY_CLASSES };
+
+pub const APPROACHES: Inputs = Inputs {
+    fixed: |reach| scene_corners::inputs(reach, scenes::approach),
+    classes: &scenes::classes(scenes::approach),
+};
+pub const INTERCEPTS: Inputs = Inputs {
+    fixed: |reach| scene_corners::inputs(reach, scenes::intercept),
+    classes: &scenes::classes(scenes::intercept),
+};
+pub const LONGEST: Inputs = Inputs {
+    fixed: |reach| scene_corners::inputs(reach, scenes::longest),
+    classes: &scenes::classes(scenes::longest),
+};
+pub const SOLVES: Inputs = Inputs {
+    fixed: |reach| scene_corners::inputs(reach, scenes::solve),
+    classes: &scenes::classes(scenes::solve),
+};

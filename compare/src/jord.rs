@@ -3,6 +3,7 @@
 
 #[macro_use]
 pub mod shim;
+pub mod watch;
 
 macro_rules! published {
     ($folder:literal: $($name:ident)+) => {
@@ -16,6 +17,8 @@ published! { "": numbers angle length speed vec3 mat33 positions vehicle }
 
 pub mod spherical {
     published! { "spherical/": base great_circle minor_arc sphere }
+    // The second copy of sphere.rs.
+    published! { "spherical/": watched }
 
     pub use base::Side;
     pub use great_circle::GreatCircle;

@@ -54,10 +54,39 @@ const MALFORMED: &[&str] = &[
     "60 3ff0000000000000 3ff0000000000000 3ff0000000000000",
     "66 3ff0000000000000 3ff0000000000000 3ff0000000000000 3ff0000000000000",
     "66 3ff0000000000000 3ff0000000000000 3ff0000000000000 3ff0000000000000 3ff000000000000g",
+    "70",
+    "79 ",
+    "79 3ff000000000000",
+    "79 3ff0000000000000 ",
+    "79 3ff0000000000000 3ff0000000000000 3ff000000000000g",
+    "7A",
 ];
 
-/// The widest call's number and arguments; one argument more or less is no call.
-const WIDEST: (u8, usize) = (0x43, 18);
+/// Numbers with more or fewer arguments than they take, the widest among them.
+const MISCOUNTED: &[(u8, usize)] = &[
+    (0x43, 17),
+    (0x43, 19),
+    (0x70, 5),
+    (0x71, 7),
+    (0x72, 6),
+    (0x72, 8),
+    (0x73, 3),
+    (0x74, 8),
+    (0x75, 9),
+    (0x75, 11),
+    (0x76, 10),
+    (0x76, 12),
+    (0x77, 9),
+    (0x77, 11),
+    (0x78, 8),
+    (0x78, 10),
+    (0x79, 19),
+    (0x7a, 16),
+    (0x7a, 18),
+    (0x7b, 0),
+    (0x7b, 17),
+    (0x7f, 6),
+];
 
 /// What `probe` is handed: a line that is no call, or a call.
 pub enum Line<'a> {
@@ -102,14 +131,12 @@ impl Script {
 /// Malformed lines, then for each function its boundaries, its examples and drawn inputs.
 pub fn each(floats: Share, original: Share, mut meet: impl FnMut(Line)) {
     MALFORMED.iter().for_each(|line| meet(Line::Malformed(line)));
-    let (number, arity) = WIDEST;
-    for count in [arity - 1, arity + 1] {
-        let mut line = Vec::new();
-        write_call(&mut line, number, &vec![1f64.to_bits(); count]);
-        meet(Line::Malformed(&String::from_utf8_lossy(&line)));
+    for (number, count) in MISCOUNTED {
+        meet(Line::Malformed(&text(*number, &vec![1f64.to_bits(); *count])));
     }
     FUNCTIONS.iter().for_each(|linked| each_call(&linked.function, floats, &mut meet));
-    original::FUNCTIONS.iter().for_each(|function| each_call(function, original, &mut meet));
+    let ported = original::FUNCTIONS.iter().chain(original::SPHERE);
+    ported.for_each(|function| each_call(function, original, &mut meet));
 }
 
 /// The calls of one function.
@@ -121,8 +148,12 @@ pub fn each_call(function: &Function, share: Share, mut meet: impl FnMut(Line)) 
 
 /// A call as `probe` reads it.
 pub fn call(function: &Function, words: &[u64]) -> String {
+    text(function.number, words)
+}
+
+pub fn text(number: u8, words: &[u64]) -> String {
     let mut text = Vec::new();
-    write_call(&mut text, function.number, words);
+    write_call(&mut text, number, words);
     String::from_utf8_lossy(&text).into_owned()
 }
 

@@ -26,9 +26,11 @@ mod second;
 mod stream;
 mod time;
 
+use original::{answering, chases, solves};
 use std::{env, io, process::ExitCode};
 
-const USAGE: &str = "usage: compare scale [N] | time | jord [N] | sample STDIN STDOUT | probe [N]";
+const USAGE: &str = "usage: compare scale [N] | time | jord [N] | sphere [N] | chases [N] | solves \
+                     | answer | sample STDIN STDOUT | probe [N]";
 const NOT_LINKED: &str =
     "no library: run `rt staticlib exports` in the repository's root, then build again";
 const NOT_BUILT: &str = "no original: put its source in ../../shared/docs/src, or name its folder \
@@ -36,6 +38,8 @@ const NOT_BUILT: &str = "no original: put its source in ../../shared/docs/src, o
 /// Drawn inputs for each function, unless the command says otherwise.
 const SCALE: u64 = 10_000_000;
 const JORD: u64 = 1_000_000;
+const SPHERE: u64 = 2_000_000;
+const CHASES: u64 = 1_000_000;
 const PROBE: u64 = 20_000;
 
 fn main() -> ExitCode {
@@ -55,7 +59,11 @@ fn main() -> ExitCode {
 fn run(words: &[&str]) -> Result<bool, String> {
     match words {
         ["scale" | "time", ..] if !ours::LINKED => Err(NOT_LINKED.into()),
-        ["jord" | "sample" | "probe", ..] if !original::BUILT => Err(NOT_BUILT.into()),
+        ["jord" | "sphere" | "chases" | "solves" | "answer" | "sample" | "probe", ..]
+            if !original::BUILT =>
+        {
+            Err(NOT_BUILT.into())
+        }
         ["scale", rest @ ..] => Ok(scale::run(count(rest, SCALE)?)),
         ["time"] => {
             time::run();
@@ -64,7 +72,14 @@ fn run(words: &[&str]) -> Result<bool, String> {
         ["sample", stdin, stdout] => sample::write(stdin, stdout)
             .map(|()| true)
             .map_err(|error| format!("the sample is not written: {error}")),
-        ["jord", rest @ ..] => piped::compare(count(rest, JORD)?).map_err(unfit),
+        ["jord", rest @ ..] => piped::jord(count(rest, JORD)?).map_err(unfit),
+        ["sphere", rest @ ..] => piped::sphere(count(rest, SPHERE)?).map_err(unfit),
+        ["chases", rest @ ..] => {
+            chases::run(count(rest, CHASES)?);
+            Ok(true)
+        }
+        ["solves"] => solves::run().map_err(unfit),
+        ["answer"] => answering::run().map(|()| true).map_err(|error| error.to_string()),
         ["probe", rest @ ..] => probe::compare(count(rest, PROBE)?).map_err(unfit),
         _ => Err(USAGE.into()),
     }

@@ -1,13 +1,18 @@
 //! The table of the ported functions: one row gives number, arguments, inputs and the original's
 //! call.
 
+pub mod answering;
+pub mod chases;
 mod examples;
+mod meetings;
 mod shapes;
+pub mod solves;
+mod walks;
 
-use crate::answer::Answer;
+use crate::answer::{ANTIPODAL, Answer, EMPTY};
 use crate::function::Function;
 use crate::inputs;
-use crate::jord::spherical::{GreatCircle, base};
+use crate::jord::spherical::{GreatCircle, Sphere, base};
 use crate::jord::{Angle, LatLong, Length, Mat33, NVector, Speed, Vec3, Vehicle, numbers};
 use shapes::{Argument, taken};
 use std::time::Duration;
@@ -20,6 +25,7 @@ macro_rules! row {
         Function {
             number: $number,
             name: $name,
+            fewest: 0 $(+ <$type as Argument>::WIDTH)+,
             arity: 0 $(+ <$type as Argument>::WIDTH)+,
             inputs: &inputs::$inputs,
             examples: examples::of,
@@ -33,6 +39,7 @@ macro_rules! row {
     };
 }
 
+/// Modules 1 to 6.
 pub const FUNCTIONS: &[Function] = &[
     row!(0x10 "eq_zero" (f: f64) NUMBERS: numbers::eq_zero(f)),
     row!(0x11 "eq" (l: f64, r: f64) NUMBER_PAIRS: numbers::eq(l, r)),
@@ -102,3 +109,46 @@ pub const FUNCTIONS: &[Function] = &[
     row!(0x66 "Vehicle::new" (p: NVector, b: Angle, s: Speed) VECTORS_AND_TWO:
         Vehicle::new(p, b, s)),
 ];
+
+/// Module 7 and a solve.
+pub const SPHERE: &[Function] = &[
+    row!(0x70 "Sphere::is_great_circle" (p: NVector, q: NVector) VECTOR_PAIRS:
+        Sphere::is_great_circle(p, q)),
+    row!(0x71 "Sphere::angle" (p: NVector, q: NVector) VECTOR_PAIRS: Sphere::angle(p, q)),
+    row!(0x72 "Sphere::distance" (s: Sphere, p: NVector, q: NVector) RADIUS_AND_PAIRS:
+        s.distance(p, q)),
+    row!(0x73 "Sphere::initial_bearing" (p: NVector, q: NVector) VECTOR_PAIRS:
+        Sphere::initial_bearing(p, q)),
+    row!(0x74 "Sphere::side" (p: NVector, q: NVector, r: NVector) VECTOR_TRIPLES:
+        Sphere::side(p, q, r)),
+    row!(0x75 "Sphere::cross_track_distance"
+        (s: Sphere, p: NVector, start: NVector, end: NVector) RADIUS_AND_TRIPLES:
+        s.cross_track_distance(p, GreatCircle::new(start, end))),
+    row!(0x76 "Sphere::time_to_cpa" (s: Sphere, own: Vehicle, intruder: Vehicle) APPROACHES:
+        walks::time_to_cpa(s, own, intruder)),
+    row!(0x77 "Sphere::time_to_intercept" (s: Sphere, p: NVector, v: Speed, intruder: Vehicle)
+        INTERCEPTS: walks::time_to_intercept(s, p, v, intruder)),
+    row!(0x78 "Sphere::max_time_to_intercept" (s: Sphere, p: NVector, intruder: Vehicle)
+        LONGEST: walks::max_time_to_intercept(s, p, intruder)),
+    Function {
+        number: 0x79,
+        name: "Sphere::mean_position",
+        fewest: 0,
+        arity: 18,
+        inputs: &inputs::MEANS,
+        examples: examples::of,
+        reference: mean,
+    },
+    row!(0x7a "solve" (s: Sphere, own: Vehicle, start: NVector, end: NVector, target: Vehicle)
+        SOLVES: walks::solve(s, own, [start, end], target)),
+];
+
+/// Three words to a position; one or two left over count for nothing.
+fn mean(words: &[u64]) -> Answer {
+    let positions: Vec<NVector> = words.chunks_exact(3).map(NVector::of).collect();
+    match Sphere::mean_position(&positions) {
+        Some(mean) => Answer::Row(vec![Answer::Byte(0), mean.into()]),
+        None if positions.is_empty() => Answer::Byte(EMPTY),
+        None => Answer::Byte(ANTIPODAL),
+    }
+}

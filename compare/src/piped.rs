@@ -1,22 +1,40 @@
-//! Holds the ported functions to the original's, one function after another, through `probe`.
+//! Holds ported functions to the original's, one function after another, through `probe`.
 
+use crate::function::Function;
 use crate::inputs::random::SEED;
 use crate::lines::{self, Share};
 use crate::{original, stream};
 use std::io;
+use std::ops::RangeInclusive;
 
 const REACH: u32 = 4;
+/// The walks meet twice as many inputs as the rest of the sphere.
+const WALKS: RangeInclusive<u8> = 0x76..=0x78;
+/// Answers that begin with a kind: an outcome's number.
+const OUTCOMES: RangeInclusive<u8> = 0x76..=0x79;
 
-/// Whether nothing differs on so many drawn inputs for each function.
-pub fn compare(drawn: u64) -> io::Result<bool> {
-    let share = Share { reach: REACH, drawn };
+/// Whether nothing differs on so many drawn inputs for each function of modules 1 to 6.
+pub fn jord(drawn: u64) -> io::Result<bool> {
+    compare(original::FUNCTIONS, |_| drawn)
+}
+
+/// Whether nothing differs on so many drawn inputs for each walk, and half as many for the rest.
+pub fn sphere(drawn: u64) -> io::Result<bool> {
+    compare(original::SPHERE, |number| if WALKS.contains(&number) { drawn } else { drawn / 2 })
+}
+
+fn compare(functions: &[Function], drawn: impl Fn(u8) -> u64) -> io::Result<bool> {
     println!("seed {SEED:016x}");
     println!("{:<4}{:<34}{:>12}{:>12}", "", "function", "inputs", "differences");
     let mut equal = true;
-    for function in original::FUNCTIONS {
-        let tally = stream::run(|feed| lines::each_call(function, share, |line| feed.add(line)))?;
+    for function in functions {
         let (number, name) = (function.number, function.name);
+        let share = Share { reach: REACH, drawn: drawn(number) };
+        let tally = stream::run(|feed| lines::each_call(function, share, |line| feed.add(line)))?;
         println!("{number:02x}  {name:<34}{:>12}{:>12}", tally.lines, tally.differences);
+        if OUTCOMES.contains(&number) {
+            tally.print_kinds();
+        }
         tally.print_first();
         equal &= tally.is_clean();
     }

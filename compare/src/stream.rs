@@ -1,16 +1,23 @@
 //! Runs the program `probe` on a stream of lines and holds each answer to the one it owes.
 
 use crate::lines::{Line, Script};
+use std::collections::BTreeMap;
+use std::ffi::OsString;
 use std::io::{self, BufRead, BufReader, Cursor, Read, Write};
 use std::process::{ChildStdin, ChildStdout, Command, Stdio};
 use std::sync::Arc;
 use std::sync::mpsc::{self, Receiver, Sender};
-use std::{mem, thread};
+use std::{env, mem, thread};
 
+/// The program, unless `PROBE` names another.
 const PROGRAM: &str = concat!(env!("CARGO_MANIFEST_DIR"), "/../target/bin/probe");
 const SHOWN: usize = 5;
 /// Bytes that are handed over at once.
 const BATCH: usize = 1 << 16;
+
+pub fn program() -> OsString {
+    env::var_os("PROBE").unwrap_or_else(|| PROGRAM.into())
+}
 
 /// Where lines go: to the program, and with their answers to whoever reads what it writes.
 pub struct Feed {
@@ -65,6 +72,8 @@ fn drain(mut stdout: ChildStdout, pieces: Sender<Vec<u8>>) {
 pub struct Tally {
     pub lines: u64,
     pub differences: u64,
+    /// How many answers are owed with each first field of two digits.
+    pub kinds: BTreeMap<[u8; 2], u64>,
     first: Vec<String>,
     ended_well: bool,
 }
@@ -72,6 +81,12 @@ pub struct Tally {
 impl Tally {
     pub fn is_clean(&self) -> bool {
         self.differences == 0 && self.ended_well
+    }
+
+    /// The kinds, where the first field is one.
+    pub fn print_kinds(&self) {
+        let kinds = self.kinds.iter().map(|(kind, count)| format!("{} {count}", shown(kind)));
+        println!("      {}", kinds.collect::<Vec<_>>().join(", "));
     }
 
     /// The first differences, and a word if the program failed.
@@ -91,6 +106,9 @@ impl Tally {
 
     fn meet(&mut self, line: &[u8], written: &[u8], answer: &[u8]) {
         self.lines += 1;
+        if let [first, second, b' ' | b'\n', ..] = *answer {
+            *self.kinds.entry([first, second]).or_default() += 1;
+        }
         if written != answer {
             let written = if written.is_empty() { b"nothing" } else { written };
             let [line, written, answer] = [line, written, answer].map(shown);
@@ -106,7 +124,7 @@ fn shown(text: &[u8]) -> String {
 /// Runs the program between a thread that feeds it and one that empties its pipe:
 /// it never waits, whatever it writes.
 pub fn run(fill: impl FnOnce(&mut Feed) + Send) -> io::Result<Tally> {
-    let mut child = Command::new(PROGRAM).stdin(Stdio::piped()).stdout(Stdio::piped()).spawn()?;
+    let mut child = Command::new(program()).stdin(Stdio::piped()).stdout(Stdio::piped()).spawn()?;
     let stdin = child.stdin.take().expect("stdin is a pipe");
     let stdout = child.stdout.take().expect("stdout is a pipe");
     let (owed, batches) = mpsc::channel();

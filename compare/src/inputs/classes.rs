@@ -2,6 +2,7 @@
 
 use super::fixed::{BOUNDS, SPECIAL};
 use super::random::{Random, power};
+use super::scenes::{self, Class, Layout};
 use super::vectors::{self, Group};
 use crate::ground;
 use crate::reference::{NANOSECONDS_AN_HOUR, TOO_MANY_SECONDS};
@@ -20,6 +21,12 @@ pub enum Draw {
     Timed(fn(&mut Random) -> (f64, u64)),
     /// Vectors that belong together, then single floats for what is left.
     Vectors(Group),
+    /// A radius, then the same.
+    Led(Group),
+    /// Numbers of a scene.
+    Scene(Class, Layout),
+    /// The same, some of them replaced.
+    Spoilt(Class, Layout),
 }
 
 impl Draw {
@@ -33,8 +40,30 @@ impl Draw {
                 words.copy_from_slice(&[x.to_bits(), nanoseconds]);
             }
             Draw::Vectors(group) => vectors::fill(group, random, words),
+            Draw::Led(group) => {
+                words[0] = scenes::radius(random).to_bits();
+                vectors::fill(group, random, &mut words[1..]);
+            }
+            Draw::Scene(class, layout) => fill(words, &layout(&class(random))),
+            Draw::Spoilt(class, layout) => {
+                fill(words, &layout(&class(random)));
+                scenes::spoil(random, words);
+            }
         }
     }
+
+    /// The class with a radius ahead of its vectors.
+    pub const fn led(self) -> Draw {
+        match self {
+            Draw::Vectors(group) => Draw::Led(group),
+            other => other,
+        }
+    }
+}
+
+fn fill(words: &mut [u64], floats: &[f64]) {
+    assert_eq!(words.len(), floats.len(), "the numbers of a scene");
+    words.iter_mut().zip(floats).for_each(|(word, x)| *word = x.to_bits());
 }
 
 /// Every bit pattern alike.

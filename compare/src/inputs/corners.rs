@@ -3,6 +3,7 @@
 
 use super::fixed::{SPECIAL, around, joined, pairs};
 use super::random::neighbour;
+use super::scenes::EARTH;
 use super::vectors::{Vector, antipode};
 use std::f64::consts::PI;
 use std::ops::Range;
@@ -183,6 +184,51 @@ pub fn vector_triples(reach: u32) -> Vec<Vec<u64>> {
         }
     }
     joined(inputs, groups(3, reach))
+}
+
+/// A radius and two vectors.
+pub fn radius_and_pairs(reach: u32) -> Vec<Vec<u64>> {
+    led(vector_pairs(reach))
+}
+
+/// A radius and three vectors.
+pub fn radius_and_triples(reach: u32) -> Vec<Vec<u64>> {
+    led(vector_triples(reach))
+}
+
+/// Radii that take turns ahead of vectors.
+fn led(inputs: Vec<Vec<u64>>) -> Vec<Vec<u64>> {
+    let radii = [EARTH, 1.0, EARTH, 0.0, 1_737_400.0, -1.0, EARTH, INFINITY, 1.0, NAN, MAX, TINY];
+    let radii = radii.map(f64::to_bits);
+    let led =
+        |(place, input): (usize, &Vec<u64>)| [&[radii[place % radii.len()]], &input[..]].concat();
+    inputs.iter().enumerate().map(led).collect()
+}
+
+/// Lists of positions: none, one, pairs, up to six, and coordinates left over.
+pub fn means(reach: u32) -> Vec<Vec<u64>> {
+    let mut inputs: Vec<Vec<u64>> = (0..3).map(|count| words(&vec![1.0; count])).collect();
+    let [x, y, z] = [0, 1, 2].map(|place| CORNERS[place]);
+    let zeros = [[0.0; 3], [-0.0; 3], [0.0, -0.0, 0.0]];
+    inputs.extend(CORNERS.iter().chain(&zeros).map(|v| words(v)));
+    let lists: [&[Vector]; 10] = [
+        &[x, antipode(x)],
+        &[x, y, antipode(x)],
+        &[y, x, z, y, antipode(z)],
+        &[x, x],
+        &[x, y, z],
+        &[x, y, z, x, y, z],
+        &[x, zeros[0]],
+        &[zeros[1], zeros[2], y],
+        &[x, [NAN, 0.0, 0.0]],
+        &[[1.0, NAN, 0.0], [-1.0, NAN, 0.0]],
+    ];
+    for list in lists {
+        let entries = words(list.as_flattened());
+        let leftovers = (entries.len() < 18).then(|| [&entries[..], &words(&[-1.0])].concat());
+        inputs.extend([entries].into_iter().chain(leftovers));
+    }
+    joined(inputs, if reach > 0 { vector_pairs(reach) } else { Vec::new() })
 }
 
 pub fn matrices(reach: u32) -> Vec<Vec<u64>> {

@@ -45,6 +45,18 @@ impl Random {
         self.next() & 1 == 0
     }
 
+    /// From `low` to `high`, sizes alike: each root of the ratio is taken or left.
+    pub fn sized(&mut self, low: f64, high: f64) -> f64 {
+        let (mut x, mut factor) = (low, high / low);
+        let mut choices = self.next() >> 32;
+        while choices > 0 {
+            factor = factor.sqrt();
+            x = if choices & 1 == 0 { x } else { x * factor };
+            choices >>= 1;
+        }
+        x
+    }
+
     /// `x` with either sign.
     pub fn signed(&mut self, x: f64) -> f64 {
         if self.coin() { x } else { -x }

@@ -35,6 +35,10 @@ pub const CLOSE_BY: Draw = Draw::Vectors(close_by);
 pub const COLLINEAR: Draw = Draw::Vectors(collinear);
 /// Three vectors whose triple product is about a bound of `side`.
 pub const TRIPLE: Draw = Draw::Vectors(triple);
+/// Entries of a mean: some equal, some antipodal, some zero or NaN.
+pub const ENTRIES: Draw = Draw::Vectors(entries);
+/// Entries about one place.
+pub const SWARM: Draw = Draw::Vectors(swarm);
 /// Rows of rotations about an axis.
 pub const ROTATIONS: Draw = Draw::Vectors(rotations);
 
@@ -60,11 +64,11 @@ pub fn antipode(v: Vector) -> Vector {
     v.map(|x| -x)
 }
 
-fn position(r: &mut Random) -> Vector {
+pub fn position(r: &mut Random) -> Vector {
     at(r.within(-PI / 2.0, PI / 2.0), r.within(-PI, PI))
 }
 
-fn edge(r: &mut Random) -> Vector {
+pub fn edge(r: &mut Random) -> Vector {
     let quarter = r.choose(&[0.0, PI / 2.0, PI]);
     let away = r.choose(&[0.0, 1e-15, 1e-9, 1e-4]);
     let near = r.about(quarter + away);
@@ -99,7 +103,7 @@ fn sized(r: &mut Random, vectors: &mut [Vector]) {
 fn equal(r: &mut Random, vectors: &mut [Vector]) {
     let first = r.choose(&[any, any, special])(r);
     vectors.fill_with(|| either(r, first));
-    vectors[0] = first;
+    lead(vectors, first);
 }
 
 fn near(r: &mut Random, vectors: &mut [Vector]) {
@@ -118,7 +122,37 @@ fn close_by(r: &mut Random, vectors: &mut [Vector]) {
         let v = sum(first, away, distance);
         either(r, unit(v))
     });
-    vectors[0] = first;
+    lead(vectors, first);
+}
+
+/// Puts a vector first, if there are any.
+fn lead(vectors: &mut [Vector], first: Vector) {
+    if let Some(place) = vectors.first_mut() {
+        *place = first;
+    }
+}
+
+/// Any vectors; one or two of them are then told by another entry, or are no position.
+fn entries(r: &mut Random, vectors: &mut [Vector]) {
+    vectors.fill_with(|| any(r));
+    let count = vectors.len() as u64;
+    for _ in 0..r.below(3).min(count) {
+        let other = vectors[r.below(count) as usize];
+        let moved = nudged(r, antipode(other));
+        let zero = [0.0; 3].map(|zero| r.signed(zero));
+        let none = special(r);
+        let entry = r.choose(&[other, other, antipode(other), moved, zero, none]);
+        vectors[r.below(count) as usize] = entry;
+    }
+}
+
+fn swarm(r: &mut Random, vectors: &mut [Vector]) {
+    let (place, size) = (any(r), r.scaled(-54, 1));
+    vectors.fill_with(|| {
+        let away = position(r);
+        let v = sum(place, away, size);
+        if r.coin() { v } else { unit(v) }
+    });
 }
 
 fn collinear(r: &mut Random, vectors: &mut [Vector]) {
@@ -171,7 +205,7 @@ fn special(r: &mut Random) -> Vector {
 }
 
 /// A vector of one of the classes of single ones.
-fn any(r: &mut Random) -> Vector {
+pub fn any(r: &mut Random) -> Vector {
     r.choose(&[position, position, edge, near_axis, level])(r)
 }
 
@@ -181,7 +215,7 @@ fn either(r: &mut Random, v: Vector) -> Vector {
 }
 
 /// A few steps away in one or several components, or in none.
-fn nudged(r: &mut Random, v: Vector) -> Vector {
+pub fn nudged(r: &mut Random, v: Vector) -> Vector {
     v.map(|x| if r.coin() { x } else { r.near(x) })
 }
 

@@ -67,6 +67,10 @@ const Y: Part = Vector(0.0, 1.0, 0.0);
 const DOUBLE_X: Part = Vector(2.0, 0.0, 0.0);
 const DOUBLE_Y: Part = Vector(0.0, 2.0, 0.0);
 const SIDE: [Part; 3] = [At(55.4295, 13.82), At(56.0465, 12.6945), At(56.0294, 14.1567)];
+const EARTH: Part = Number(6_371_000.8);
+const OFF: [Part; 3] = [At(53.2611, -0.7972), At(53.3206, -1.7297), At(53.1887, 0.1334)];
+const SHIP: [Part; 3] = [At(20.0, -60.0), Degrees(10.0), Knots(15.0)];
+const SEEN: [Part; 2] = [At(34.0, -50.0), Degrees(220.0)];
 
 const EXAMPLES: &[(u8, &[Part])] = &[
     (0x18, &[Degrees(-181.0), Number(PI)]),
@@ -115,6 +119,27 @@ const EXAMPLES: &[(u8, &[Part])] = &[
     (0x66, &[At(20.0, -60.0), Degrees(10.0), Knots(15.0)]),
     (0x66, &[At(34.0, -50.0), Degrees(220.0), Knots(300.0)]),
     (0x66, &[At(34.0, -50.0), Degrees(220.0), Knots(600.0)]),
+    (0x70, &[At(0.0, 0.0), At(0.0, 1.0)]),
+    (0x71, &[At(90.0, 0.0), At(-90.0, 0.0)]),
+    (0x71, &[At(54.0, 154.0), At(55.0, 155.0)]),
+    (0x72, &[EARTH, At(90.0, 0.0), At(-90.0, 0.0)]),
+    (0x72, &[EARTH, At(54.0, 154.0), At(55.0, 155.0)]),
+    (0x73, &[At(0.0, 0.0), At(0.0, 1.0)]),
+    (0x73, &[At(0.0, 1.0), At(0.0, 0.0)]),
+    (0x74, &[SIDE[0], SIDE[1], SIDE[2]]),
+    (0x74, &[SIDE[0], SIDE[2], SIDE[1]]),
+    (0x75, &[EARTH, OFF[0], OFF[1], OFF[2]]),
+    (0x76, &[EARTH, SHIP[0], SHIP[1], SHIP[2], SEEN[0], SEEN[1], Knots(300.0)]),
+    (0x77, &[EARTH, SHIP[0], Knots(50.0), SEEN[0], SEEN[1], Knots(600.0)]),
+    (0x77, &[EARTH, SHIP[0], Knots(700.0), SEEN[0], SEEN[1], Knots(600.0)]),
+    (0x78, &[EARTH, SHIP[0], SEEN[0], SEEN[1], Knots(600.0)]),
+    (0x79, &[At(10.0, 10.0), At(10.0, -10.0), At(-10.0, -10.0), At(-10.0, 10.0)]),
+    (0x79, &[At(10.0, 0.0), At(0.0, -10.0), At(0.0, 10.0)]),
+    (0x7a, &[EARTH, SHIP[0], SHIP[1], SHIP[2], OFF[1], OFF[2], SEEN[0], SEEN[1], Knots(300.0)]),
+    (
+        0x7a,
+        &[EARTH, SHIP[0], SHIP[1], Knots(700.0), OFF[1], OFF[2], SEEN[0], SEEN[1], Knots(600.0)],
+    ),
 ];
 
 /// The words of every example of the function with this number.

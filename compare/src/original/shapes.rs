@@ -1,7 +1,9 @@
 //! How the original's types stand in words: arguments read from them, answers put into them.
 
 use crate::answer::Answer;
-use crate::jord::spherical::{GreatCircle, Side};
+use crate::inputs::scenes::Ship;
+use crate::inputs::vectors::Vector;
+use crate::jord::spherical::{GreatCircle, Side, Sphere};
 use crate::jord::{Angle, LatLong, Length, Mat33, NVector, Speed, Vec3, Vehicle};
 use std::time::Duration;
 
@@ -40,6 +42,9 @@ arguments! {
     LatLong, 2: words => LatLong::new(Angle::of(words), Angle::of(&words[1..]));
     Vec3, 3: words => Vec3::new(f64::of(words), f64::of(&words[1..]), f64::of(&words[2..]));
     NVector, 3: words => NVector::new(Vec3::of(words));
+    Sphere, 1: words => Sphere::new(Length::of(words));
+    Vehicle, 5: words =>
+        Vehicle::new(NVector::of(words), Angle::of(&words[3..]), Speed::of(&words[4..]));
     Mat33, 9: words => Mat33::new(Vec3::of(words), Vec3::of(&words[3..]), Vec3::of(&words[6..]));
 }
 
@@ -66,6 +71,15 @@ answers! {
     Side: side => Answer::Byte(number(side));
 }
 
+pub fn nvector([x, y, z]: Vector) -> NVector {
+    NVector::new(Vec3::new(x, y, z))
+}
+
+pub fn vehicle(ship: Ship) -> Vehicle {
+    let speed = Speed::from_metres_per_second(ship.speed);
+    Vehicle::new(nvector(ship.position), Angle::from_radians(ship.bearing), speed)
+}
+
 pub fn components(v: Vec3) -> [f64; 3] {
     [v.x(), v.y(), v.z()]
 }
@@ -83,7 +97,7 @@ fn state(vehicle: Vehicle) -> [f64; 5] {
 }
 
 /// Document 01's digits for a side.
-fn number(side: Side) -> u8 {
+pub fn number(side: Side) -> u8 {
     match side {
         Side::Left => 0,
         Side::Right => 1,
