@@ -1,0 +1,58 @@
+-- Every list of calls of the code answers as the plain board does and leaves its board: demand 3 of the code.
+use mathlib.Core.Bool.{true, false}
+use mathlib.Core.List.{List, _∷_}
+use mathlib.Core.Path.{_≡_, refl, sym, _∙_, ap, ap₂}
+use lib.Ieee.{Float}
+use lib.ListN.{length}
+use lib.Seq.{take-all}
+use Prim.Native.Nat.{_≤_}
+use Rattle.board.specs.declared.state.Board.{Board}
+use Rattle.board.specs.declared.call.Call.{Call}
+use Rattle.board.specs.declared.call.Answer.{Answer}
+use Rattle.board.specs.Board.{Plain, fresh, answer, accepted, outcome, after, run, answers}
+use Rattle.board.specs.Code.{plain, cut, Played, ended, then, Demanded}
+use Rattle.board.specs.History.{accepts}
+use Rattle.board.proofs.Slots.{listed-le}
+use Rattle.board.proofs.Steps.{not-accepted, is-accepted}
+use Rattle.board.proofs.Room.{room-after}
+use Rattle.board.proofs.Demand3.{demand-3}
+
+cut-small : (p : Plain) → length (p .targets) ≤ 64 → cut p ≡ p
+unfolding cut
+cut-small p h = rw (take-all 64 (p .targets) h)
+
+plain-small : (b : Board) → length (plain b .targets) ≤ 64
+unfolding plain
+plain-small b = listed-le (b .targets)
+
+-- a refused call of the code
+pub heard-refused : (b : Board) (c : Call) (a : Answer) → a ≡ answer (plain b) c → accepts a ≡ false → plain b ≡ after (plain b) c
+unfolding after
+heard-refused b c a e r = sym (not-accepted (plain b) c a r) ∙ ap (outcome (plain b) c) e
+
+-- an accepted call of the code
+pub heard-accepted : (b : Board) (c : Call) (a : Answer) (q : Plain) → a ≡ answer (plain b) c → accepts a ≡ true
+    → q ≡ cut (accepted (plain b) c a) → q ≡ after (plain b) c
+unfolding after
+heard-accepted b c a q e o h =
+    let now : accepted (plain b) c a ≡ after (plain b) c = sym (is-accepted (plain b) c a o) ∙ ap (outcome (plain b) c) e in
+    h ∙ ap cut now ∙ cut-small (after (plain b) c) (room-after (plain b) (plain-small b) c)
+
+played : {b last : Board} {cs : List Call} {rs : List Answer} → Played b cs rs last
+    → (rs ≡ answers (plain b) cs) × (plain last ≡ run (plain b) cs)
+unfolding run answers
+played ended = (refl, refl)
+played (then {cs = cs} r h p) =
+    let rest = played p in (
+      ap₂ _∷_ (h .0) (rest .0 ∙ ap (λ (k : Plain). answers k cs) (h .1)),
+      rest .1 ∙ ap (λ (k : Plain). run k cs) (h .1),
+    )
+
+pub whole : (r : Float) (b : Board) → plain b ≡ fresh r → Demanded r b
+whole r b e cs rs last p =
+    let q = played p in
+    record {
+      answers-are = q .0 ∙ ap (λ (k : Plain). answers k cs) e;
+      board-is = q .1 ∙ ap (λ (k : Plain). run k cs) e;
+      demand = demand-3 r cs;
+    }

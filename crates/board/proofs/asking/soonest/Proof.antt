@@ -1,0 +1,67 @@
+-- `soonest` meets its contract. The loop has folded the targets passed.
+use Prim.Native.Nat.{_+_, _-_, _≤_}
+use native.Mathlib.Omega.{arith}
+use mathlib.Core.Path.{_≡_, sym, ap, _∙_}
+use lib.ListN.{length, take, drop}
+use borrow.Author.Needs.{needs}
+use Rattle.spherical.specs.Mean.{fold}
+use Rattle.board.specs.declared.asking.Best.the-variants.{Missing}
+use Rattle.board.specs.Asking.{better}
+use Rattle.board.proofs.Loops.{rest-on, rest-out}
+use Rattle.board.proofs.Arrays.{absent}
+use Rattle.board.proofs.asking.soonest.Statement.{statement}
+use Rattle.board.proofs.asking.soonest.Tie as tie
+
+abbrev Inv-loop : tie.InvT-loop
+Inv-loop n entries b₀ i₀ b i =
+    (i ≤ n) × (length entries ≡ 64) × (fold better Missing (take n entries) ≡ fold better b (drop i (take n entries)))
+
+abbrev μ-loop : tie.MeasureT-loop
+μ-loop n entries b₀ i₀ b i = n - i
+
+loop-holds : tie.Need-loop-holds Inv-loop μ-loop
+loop-holds c = search needs
+
+mul-better : tie.Need-mul-better Inv-loop μ-loop
+mul-better c = search needs
+
+array-copy-out-better : tie.Need-array-copy-out-better Inv-loop μ-loop
+array-copy-out-better c = search needs
+
+better-requires : tie.Need-better-requires Inv-loop μ-loop
+better-requires c κs = search needs
+
+add-i : tie.Need-add-i Inv-loop μ-loop
+add-i c = search needs
+
+loop-less : tie.Need-loop-less Inv-loop μ-loop
+loop-less c = search needs
+
+loop-again : tie.Need-loop-again Inv-loop μ-loop
+loop-again c = let at = c .before .before .before in
+    let a = at .before .args in (
+      search needs,
+      search needs,
+      at .loop .inv .2 ∙ ap (fold better (at .loop .b)) (rest-on (a .n) (a .t1) (omega arith) (at .loop .i) absent (omega arith))
+          ∙ ap (λ s. fold better s (drop (at .loop .i + 1) (take (a .n) (a .t1)))) (sym (c .better .ensures)),
+    )
+
+returns : tie.Need-returns Inv-loop μ-loop
+returns c = let at = c .before in
+    let a = at .before .args in
+    sym (at .loop .inv .2 ∙ ap (fold better (at .loop .b)) (rest-out (a .n) (a .t1) (omega arith) (at .loop .i) (omega arith)))
+
+pub soonest-spec : {M : Type 1} → statement M
+soonest-spec =
+    tie.close
+    (tie.spec
+    Inv-loop
+    μ-loop
+    loop-holds
+    mul-better
+    array-copy-out-better
+    better-requires
+    add-i
+    loop-less
+    loop-again
+    returns)

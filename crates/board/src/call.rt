@@ -1,0 +1,116 @@
+// What is handed to a board and what it answers.
+ghost use mathlib.Core.Path.{_≡_};
+ghost use Rattle.board.specs.Call as spec;
+use crate::line::Ends;
+use crate::line::Line;
+use jord::angle::Angle;
+use jord::positions::NVector;
+use jord::speed::Speed;
+use jord::vec3::Vec3;
+use jord::vehicle::Vehicle;
+
+// Three numbers handed over as a position.
+pub struct Coordinates {
+    pub x: f64,
+    pub y: f64,
+    pub z: f64,
+}
+
+// The numbers handed over for a vehicle: a position, a bearing in radians, a speed in metres a second.
+pub struct Fix {
+    pub position: Coordinates,
+    pub bearing: f64,
+    pub speed: f64,
+}
+
+// A call that may change a board. Report, withdraw and solve name a target by its identity.
+pub enum Call {
+    Report(u16, Fix),
+    Withdraw(u16),
+    OwnShip(Fix),
+    Track(Coordinates, Coordinates),
+    Solve(u16),
+}
+
+// Why a call is refused: the question that was answered by no.
+pub enum Refusal {
+    // The radius is finite and above zero.
+    RadiusNotPositive,
+    // The identity is other than 0.
+    IdentityZero,
+    // All numbers handed over are finite.
+    NotFinite,
+    // Each position has the length one.
+    NotUnit,
+    // The speed is zero or more.
+    SpeedNegative,
+    // The track's ends are a great circle.
+    NoGreatCircle,
+    // The board holds this identity.
+    NotHeld,
+    // The identity is held, or fewer than 64 are held.
+    BoardFull,
+    // An own ship has been set.
+    NoOwnShip,
+    // A track has been set.
+    NoTrack,
+    // Some target's line has a found meeting time.
+    NoMeeting,
+}
+
+impl Refusal {
+    // Document 01's number of the refusal.
+    pub fn number(self) -> u8
+        ensures { λ r. ⌜ r ≡ spec.numberOf self ⌝ }
+    {
+        match self {
+            Refusal::RadiusNotPositive => 2,
+            Refusal::IdentityZero => 3,
+            Refusal::NotFinite => 4,
+            Refusal::NotUnit => 5,
+            Refusal::SpeedNegative => 6,
+            Refusal::NoGreatCircle => 7,
+            Refusal::NotHeld => 8,
+            Refusal::BoardFull => 9,
+            Refusal::NoOwnShip => 10,
+            Refusal::NoTrack => 11,
+            Refusal::NoMeeting => 19,
+        }
+    }
+}
+
+// What a board answers to a call.
+pub enum Answer {
+    Done,
+    Solved(Line),
+    Refused(Refusal),
+}
+
+// The position of three numbers: a part of -0.0 is made +0.0.
+pub fn position(c: Coordinates) -> NVector
+    ensures { λ r. ⌜ r ≡ spec.position c ⌝ }
+{
+    NVector::new(Vec3::new(c.x, c.y, c.z))
+}
+
+// The vehicle of a fix.
+pub fn vehicle(fix: Fix) -> Vehicle
+    ensures { λ r. ⌜ r ≡ spec.vehicle fix ⌝ }
+{
+    let at = fix.position;
+    Vehicle::new(
+        position(at),
+        Angle::from_radians(fix.bearing),
+        Speed::from_metres_per_second(fix.speed),
+    )
+}
+
+// The track between two positions.
+pub fn ends(start: Coordinates, end: Coordinates) -> Ends
+    ensures { λ r. ⌜ r ≡ spec.ends start end ⌝ }
+{
+    Ends {
+        start: position(start),
+        end: position(end),
+    }
+}

@@ -1,0 +1,238 @@
+// The targets of a board, in rising identity: the first of 64 places.
+ghost use mathlib.Core.Path.{_≡_};
+ghost use mathlib.Core.List.{_∷_, _++_, map};
+ghost use Prim.Native.Nat.{_+_, _≤_};
+ghost use lib.ListN.{length, take, drop, set};
+ghost use Rattle.board.specs.Targets as spec;
+use crate::line::Line;
+use jord::angle::Angle;
+use jord::positions::NVector;
+use jord::speed::Speed;
+use jord::vec3::Vec3;
+use jord::vehicle::Vehicle;
+
+// A line, or none.
+pub enum Lined {
+    Bare,
+    With(Line),
+}
+
+// What is held of a target: its last accepted report, and its line or none.
+pub struct Held {
+    pub report: Vehicle,
+    pub line: Lined,
+}
+
+// A target.
+pub struct Target {
+    pub identity: u16,
+    pub held: Held,
+}
+
+// The targets that stand: the first `count` entries, all of them where it says more.
+pub struct Targets {
+    pub entries: [Target; 64],
+    pub count: usize,
+}
+
+// What is held under an identity.
+pub enum Found {
+    Nothing,
+    There(Held),
+}
+
+// Where an identity stands, or where it would.
+enum Spot {
+    At(usize),
+    Before(usize),
+}
+
+// No target stands.
+pub fn empty() -> Targets
+    ensures { λ r. ⌜ r ≡ spec.empty ⌝ }
+{
+    let nowhere = Vehicle::new(NVector::new(Vec3::ZERO), Angle::ZERO, Speed::ZERO);
+    let held = Held {
+        report: nowhere,
+        line: Lined::Bare,
+    };
+    let blank = Target { identity: 0, held };
+    Targets {
+        entries: [blank; 64],
+        count: 0,
+    }
+}
+
+// How many targets stand.
+pub fn standing(targets: Targets) -> usize
+    ensures { λ r. ⌜ r ≡ length (spec.listed targets) ⌝ }
+{
+    let entries = targets.entries;
+    counted(entries, targets.count)
+}
+
+// How many of the entries stand.
+fn counted(entries: [Target; 64], count: usize) -> usize
+    ensures { λ r. ⌜ r ≡ length (take (spec.atMost64 count) entries) ⌝ }
+{
+    least(count)
+}
+
+// A count, or 64 where it says more.
+pub fn least(count: usize) -> usize
+    ensures { λ r. ⌜ r ≡ spec.atMost64 count ⌝ }
+{
+    if count < 64 { count } else { 64 }
+}
+
+// What is held under an identity, or nothing.
+pub fn find(targets: Targets, identity: u16) -> Found
+    ensures { λ r. ⌜ r ≡ spec.find identity (spec.listed targets) ⌝ }
+{
+    let entries = targets.entries;
+    match locate(entries, least(targets.count), identity) {
+        Spot::At(p) => {
+            let t = entries[p];
+            let held = t.held;
+            Found::There(held)
+        }
+        Spot::Before(_) => Found::Nothing,
+    }
+}
+
+// With this held under an identity, in its place. Where there is no room the last target falls off.
+pub fn place(targets: Targets, identity: u16, held: Held) -> Targets
+    ensures { λ r. ⌜ spec.listed r ≡ take 64 (spec.place identity (Found.There held) (spec.listed targets)) ⌝ }
+{
+    let entries = targets.entries;
+    let n = least(targets.count);
+    let t = Target { identity, held };
+    match locate(entries, n, identity) {
+        Spot::At(p) => Targets {
+            entries: replaced(entries, p, t),
+            count: n,
+        },
+        Spot::Before(p) => Targets {
+            entries: inserted(entries, p, t),
+            count: n + 1,
+        },
+    }
+}
+
+// Without the target of an identity.
+pub fn remove(targets: Targets, identity: u16) -> Targets
+    ensures { λ r. ⌜ spec.listed r ≡ spec.place identity Found.Nothing (spec.listed targets) ⌝ }
+{
+    let entries = targets.entries;
+    let n = least(targets.count);
+    match locate(entries, n, identity) {
+        Spot::At(p) => Targets {
+            entries: closed(entries, p),
+            count: n - 1,
+        },
+        Spot::Before(_) => targets,
+    }
+}
+
+// Every line taken away.
+pub fn clear(targets: Targets) -> Targets
+    ensures { λ r. ⌜ spec.listed r ≡ spec.bared (spec.listed targets) ⌝ }
+{
+    let entries = targets.entries;
+    Targets {
+        entries: bared(entries),
+        count: targets.count,
+    }
+}
+
+// Where an identity stands among the first n entries, or before which it would.
+fn locate(entries: [Target; 64], n: usize, identity: u16) -> Spot
+    requires { ⌜ n ≤ 64 ⌝ }
+    ensures { λ r. ⌜ (r ≡ spec.spotFrom 0 identity (take n entries)) × (length entries ≡ 64) ⌝ }
+{
+    let mut i = 0;
+    while i < n {
+        let k = entries[i].identity;
+        if identity <= k {
+            if identity == k {
+                return Spot::At(i);
+            }
+            return Spot::Before(i);
+        }
+        i += 1;
+    }
+    Spot::Before(i)
+}
+
+// t in place p.
+fn replaced(entries: [Target; 64], p: usize, t: Target) -> [Target; 64]
+    ensures { λ r. ⌜ r ≡ set entries p t ⌝ }
+{
+    if 64 <= p {
+        return entries;
+    }
+    let mut out = entries;
+    out[p] = t;
+    out
+}
+
+// t in place p, and what stood there and after it one place on. The last falls off.
+fn inserted(entries: [Target; 64], p: usize, t: Target) -> [Target; 64]
+    ensures { λ r. ⌜ r ≡ take 64 (take p entries ++ t ∷ drop p entries) ⌝ }
+{
+    if 64 <= p {
+        return entries;
+    }
+    let mut out = entries;
+    out[p] = t;
+    let mut i = p + 1;
+    while i < 64 {
+        out[i] = entries[i - 1];
+        i += 1;
+    }
+    out
+}
+
+// Without what stood in place p, and what stood after it one place back. The last stands twice.
+fn closed(entries: [Target; 64], p: usize) -> [Target; 64]
+    ensures { λ r. ⌜ r ≡ take 64 ((take p entries ++ drop (p + 1) entries) ++ drop 63 entries) ⌝ }
+{
+    if 64 <= p {
+        return entries;
+    }
+    let mut out = entries;
+    let mut i = p;
+    while i < 63 {
+        out[i] = entries[i + 1];
+        i += 1;
+    }
+    out
+}
+
+// The target without its line.
+fn bare(t: Target) -> Target
+    ensures { λ r. ⌜ r ≡ spec.bareTarget t ⌝ }
+{
+    let held = t.held;
+    let report = held.report;
+    Target {
+        identity: t.identity,
+        held: Held {
+            report,
+            line: Lined::Bare,
+        },
+    }
+}
+
+// Every entry without its line.
+fn bared(entries: [Target; 64]) -> [Target; 64]
+    ensures { λ r. ⌜ r ≡ map spec.bareTarget entries ⌝ }
+{
+    let mut out = entries;
+    let mut i = 0;
+    while i < 64 {
+        out[i] = bare(entries[i]);
+        i += 1;
+    }
+    out
+}
