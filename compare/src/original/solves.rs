@@ -17,6 +17,9 @@ const ROUNDS: usize = 25;
 const STREAM: u64 = 1 << 18;
 /// In the build's own folder.
 const FOLDER: &str = env!("OUT_DIR");
+/// The sides, in names of files.
+const HERE: &str = "here";
+const RUST: &str = "rust";
 
 /// What is timed: a name, and for each scene a line for each number.
 type Case = (&'static str, &'static [(u8, Layout)]);
@@ -42,33 +45,57 @@ const CASES: [Case; 7] = [
     ("no line: starting the program", &[]),
 ];
 
-/// Whether both programs answer alike.
+/// A file of lines, and the best milliseconds here and in Rust.
+struct Timed {
+    file: String,
+    best: [f64; 2],
+}
+
+/// Whether both programs answer alike. Rounds go through all cases: a busy spell spoils none.
 pub fn run() -> io::Result<bool> {
     let mut random = Random::new(STREAM);
     let chases: Vec<Scene> = (0..SOLVES).map(|_| scenes::chase(&mut random)).collect();
-    println!("seed {SEED:016x}, {SOLVES} chases, best of {ROUNDS} rounds\n");
-    println!("| lines | here, ms | Rust, ms | ratio |\n|---|---:|---:|---:|");
-    let mut equal = true;
-    for (name, calls) in CASES {
-        let lines = written(&chases, calls)?;
-        let (here, rust) = timed(&lines)?;
-        println!("| {name} | {here:.1} | {rust:.1} | {:.2} |", here / rust);
-        equal &= fs::read(answers("here"))? == fs::read(answers("rust"))?;
+    let inputs: Vec<_> = chases.iter().map(|scene| words(scene, scenes::solve)).collect();
+    let mut timed = Vec::new();
+    for (place, (_, calls)) in CASES.iter().enumerate() {
+        timed.push(Timed { file: written(place, &chases, calls)?, best: [f64::INFINITY; 2] });
     }
-    let (plain, watched) = alone(&chases);
-    println!("\n| solves in Rust, computation alone | ms |\n|---|---:|");
-    println!("| the original | {plain:.1} |\n| its watched copy | {watched:.1} |");
+    let mut alone = [f64::INFINITY; 2];
+    let mut equal = true;
+    for _ in 0..ROUNDS {
+        for case in &mut timed {
+            let times = both(&case.file)?;
+            equal &= fs::read(answers(HERE))? == fs::read(answers(RUST))?;
+            case.best = lesser(case.best, times);
+        }
+        alone = lesser(alone, [run_all(&inputs, plain), run_all(&inputs, answering::solved)]);
+    }
+    print(&timed, alone);
     println!("\nanswers {}", if equal { "equal" } else { "differ" });
     Ok(equal)
 }
 
-/// The name of a file with the lines.
-fn written(chases: &[Scene], calls: &[(u8, Layout)]) -> io::Result<String> {
+fn print(timed: &[Timed], [plain, watched]: [f64; 2]) {
+    println!("seed {SEED:016x}, {SOLVES} chases, best of {ROUNDS} rounds\n");
+    println!("| lines | here, ms | Rust, ms | ratio |\n|---|---:|---:|---:|");
+    for ((name, _), Timed { best: [here, rust], .. }) in CASES.iter().zip(timed) {
+        println!("| {name} | {here:.1} | {rust:.1} | {:.2} |", here / rust);
+    }
+    println!("\n| solves in Rust, computation alone | ms |\n|---|---:|");
+    println!("| the original | {plain:.1} |\n| its watched copy | {watched:.1} |");
+}
+
+fn lesser(a: [f64; 2], b: [f64; 2]) -> [f64; 2] {
+    [a[0].min(b[0]), a[1].min(b[1])]
+}
+
+/// The name of a file with the lines of a case.
+fn written(case: usize, chases: &[Scene], calls: &[(u8, Layout)]) -> io::Result<String> {
     let text = |scene: &Scene| {
         let line = |(number, layout): &(u8, Layout)| lines::text(*number, &words(scene, *layout));
         calls.iter().map(|call| line(call) + "\n").collect::<String>()
     };
-    let file = format!("{FOLDER}/lines");
+    let file = format!("{FOLDER}/lines-{case}");
     fs::write(&file, chases.iter().map(text).collect::<String>())?;
     Ok(file)
 }
@@ -77,16 +104,11 @@ fn words(scene: &Scene, layout: Layout) -> Vec<u64> {
     layout(scene).into_iter().map(f64::to_bits).collect()
 }
 
-/// The best milliseconds of both programs on one file, in turns.
-fn timed(file: &str) -> io::Result<(f64, f64)> {
-    let (program, this) = (stream::program(), env::current_exe()?);
-    let mut best = (f64::INFINITY, f64::INFINITY);
-    for _ in 0..ROUNDS {
-        let here = once(&program, &[], file, "here")?;
-        let rust = once(this.as_os_str(), &["answer"], file, "rust")?;
-        best = (best.0.min(here), best.1.min(rust));
-    }
-    Ok(best)
+/// The milliseconds of both programs on one file.
+fn both(file: &str) -> io::Result<[f64; 2]> {
+    let this = env::current_exe()?;
+    let here = once(&stream::program(), &[], file, HERE)?;
+    Ok([here, once(this.as_os_str(), &["answer"], file, RUST)?])
 }
 
 /// Milliseconds from the start of a program to its end, from a file into a file.
@@ -102,14 +124,7 @@ fn answers(side: &str) -> String {
     format!("{FOLDER}/answers-{side}")
 }
 
-/// The original and its watched copy within this program, in turns.
-fn alone(chases: &[Scene]) -> (f64, f64) {
-    let inputs: Vec<_> = chases.iter().map(|scene| words(scene, scenes::solve)).collect();
-    let round = |_| (run_all(&inputs, plain), run_all(&inputs, answering::solved));
-    let best = |a: (f64, f64), b: (f64, f64)| (a.0.min(b.0), a.1.min(b.1));
-    (0..ROUNDS).map(round).fold((f64::INFINITY, f64::INFINITY), best)
-}
-
+/// Milliseconds of all solves within this program.
 fn run_all<A>(inputs: &[Vec<u64>], solve: impl Fn(&[u64]) -> A) -> f64 {
     let start = Instant::now();
     for words in black_box(inputs) {
