@@ -1,0 +1,6 @@
+pub mod Lines
+pub mod Sizes
+pub mod Sessions
+pub mod Texts
+pub mod Pieces
+pub mod Turns

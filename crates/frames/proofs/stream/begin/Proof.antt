@@ -1,0 +1,16 @@
+-- Nothing has come, and whatever pieces come, they are answered as the whole.
+use Rattle.frames.specs.Stream.{fresh}
+use Rattle.frames.proofs.Pieces.{whole-input}
+use borrow.Author.Needs.{needs}
+use Rattle.frames.proofs.stream.begin.Statement.{statement}
+use Rattle.frames.proofs.stream.begin.Tie as tie
+
+begin-requires : tie.Need-begin-requires
+begin-requires c κs = search needs
+
+returns : tie.Need-returns
+unfolding fresh
+returns c = (rw (c .begin .ensures), whole-input)
+
+pub begin-spec : {M : Type 1} → statement M
+begin-spec = tie.close (tie.spec begin-requires returns)

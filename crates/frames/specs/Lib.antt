@@ -1,0 +1,6 @@
+pub mod Frame
+pub mod Reply
+pub mod Session
+pub mod Whole
+pub mod Stream
+pub mod Table

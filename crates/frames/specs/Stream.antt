@@ -1,0 +1,115 @@
+-- The input in pieces: what is kept between two pieces, and what a piece is answered. Definitions only.
+use Prim.Native.Nat.{ℕ, _+_, _≤_, _<_}
+use mathlib.Core.Bool.{cond}
+use mathlib.Core.List.{List, [], _∷_, _++_}
+use mathlib.Core.Option.{Option, none}
+use mathlib.Core.Path.{_≡_}
+use lib.Dec.{eqb, ltb}
+use lib.ListN.{length, take, getD}
+use Rattle.board.specs.Board.{Plain}
+use Rattle.hex.specs.Write.{Wrote}
+use Rattle.frames.specs.declared.session.Session.{Session}
+use Rattle.frames.specs.declared.stream.Answered.{Answered}
+use Rattle.frames.specs.declared.stream.Fed.{Fed}
+use Rattle.frames.specs.declared.stream.Stream.{Stream}
+use Rattle.frames.specs.Frame.{frameOf, longest}
+use Rattle.frames.specs.Reply.{longestReply}
+use Rattle.frames.specs.Session.{next, plainOf}
+use Rattle.frames.specs.Whole.{newline, Asked, asked, Text}
+
+-- how many bytes of a line are kept: one more than the longest frame has, so that a longer line is no frame
+abbrev pub kept : ℕ
+kept = longest + 1
+
+-- the room that any reply fits, its newline with it
+abbrev pub room : ℕ
+room = longestReply + 1
+
+-- the lesser of n and what is kept
+abbrev pub least : ℕ → ℕ
+least n = cond (ltb n kept) n kept
+
+-- ---- what is kept between two pieces
+
+-- the session, and the first bytes of the line that has begun
+pub record Model : Type 0 where
+  pub board : Option Plain
+  pub part : List ℕ
+
+-- nothing has come
+unfoldable pub fresh : Model
+fresh = record { board = none; part = [] }
+
+-- one more byte of the line
+unfoldable pub added : List ℕ → ℕ → List ℕ
+added p x = cond (ltb (length p) kept) (p ++ (x ∷ [])) p
+
+-- ---- one byte, and a piece of the input
+
+unfoldable pub stepped : Model → ℕ → Model
+stepped m x =
+    cond (eqb x newline) (record { board = next (m .board) (frameOf (m .part)); part = [] }) (record { board = m .board; part = added (m .part) x })
+
+-- what the byte asks: a newline, the frame that it ends
+unfoldable pub asks : Model → ℕ → List Asked
+asks m x = cond (eqb x newline) (asked (m .board) (frameOf (m .part)) ∷ []) []
+
+unfoldable pub fedState : Model → List ℕ → Model
+fedState m [] = m
+fedState m (x ∷ xs) = fedState (stepped m x) xs
+
+unfoldable pub fedAsks : Model → List ℕ → List Asked
+fedAsks m [] = []
+fedAsks m (x ∷ xs) = asks m x ++ fedAsks (stepped m x) xs
+
+-- the end of the input: "the last newline may lack"
+unfoldable pub lastAsks : Option Plain → List ℕ → List Asked
+lastAsks o [] = []
+lastAsks o (x ∷ p) = asked o (frameOf (x ∷ p)) ∷ []
+
+unfoldable pub endAsks : Model → List Asked
+endAsks m = lastAsks (m .board) (m .part)
+
+-- ---- all pieces, one after another, and the text that is written for them
+
+pub data Ran : Model → List (List ℕ) → List ℕ → Type 0 where
+  ends : {m : Model} {t : List ℕ} → Text (endAsks m) t → Ran m [] t
+  feeds : {m : Model} {xs : List ℕ} {pieces : List (List ℕ)} {t u : List ℕ} → Text (fedAsks m xs) t → Ran (fedState m xs) pieces u
+      → Ran m (xs ∷ pieces) (t ++ u)
+
+unfoldable pub joined : List (List ℕ) → List ℕ
+joined [] = []
+joined (xs ∷ pieces) = xs ++ joined pieces
+
+-- ---- the stream of the code
+
+abbrev pub view : Stream → Model
+view s = record { board = plainOf (s .session); part = take (s .n) (s .line) }
+
+-- the reply to a line, with its newline, over a page
+pub record Answering (s : Session) (line page : List ℕ) (at : ℕ) (out : List ℕ) (r : Answered) : Type 0 where
+  pub session-is : plainOf (r .session) ≡ next (plainOf s) (frameOf line)
+  pub text : List ℕ
+  pub text-of : Text (asked (plainOf s) (frameOf line) ∷ []) text
+  pub wrote : Wrote page at (length text) text out (r .next)
+
+-- the bytes used of a piece, and their answer over the page from its start; where not all are used, the next is a newline
+-- and its reply might not fit
+pub record Feeding (s : Stream) (xs page out : List ℕ) (r : Fed) : Type 0 where
+  pub within : r .used ≤ length xs
+  pub stops : r .used < length xs → (getD xs (r .used) 0 ≡ newline) × (length page < r .next + room)
+  pub state-is : view (r .stream) ≡ fedState (view s) (take (r .used) xs)
+  pub text : List ℕ
+  pub text-of : Text (fedAsks (view s) (take (r .used) xs)) text
+  pub wrote : Wrote page 0 (length text) text out (r .next)
+
+-- the reply to a line that has begun, over a page from its start
+pub record Finished (s : Stream) (page out : List ℕ) (next : ℕ) : Type 0 where
+  pub text : List ℕ
+  pub text-of : Text (endAsks (view s)) text
+  pub wrote : Wrote page 0 (length text) text out next
+
+-- the same where the page has the room for any reply, and nothing where not
+pub record Finishing (s : Stream) (page out : List ℕ) (next : ℕ) : Type 0 where
+  pub no-room : length page < room → (out ≡ page) × (next ≡ 0)
+  pub finished : room ≤ length page → Finished s page out next

@@ -1,0 +1,87 @@
+// Reads frames on standard input and writes the reply to each on standard output, until the input ends or a read or a write fails.
+ghost use mathlib.Core.Path.{_≡_};
+ghost use Rattle.frames.specs.Stream.{view, fedState};
+use frames::stream::Stream;
+
+// How to go on.
+const ON: u8 = 0;
+
+const ENDED: u8 = 1;
+
+const FAILED: u8 = 2;
+
+// What a turn leaves: the stream, and how to go on.
+struct Turned {
+    stream: Stream,
+    way: u8,
+}
+
+// Answers a piece of the input, page by page, and writes each page at once.
+fn pour(s: Stream, xs: &[u8]) -> Turned
+    ensures { λ r. ⌜ (r .way ≡ 0 → view (r .stream) ≡ fedState (view s) (now (xs .entry))) ⌝ }
+{
+    let mut stream = s;
+    let mut page = io::large_buffer();
+    let mut i = 0;
+    while i < xs.len() {
+        let fed = frames::stream::feed(stream, &xs[i..], &mut page);
+        let next = fed.stream;
+        stream = next;
+        i += fed.used;
+        let n = fed.next;
+        if !io::write_all(1, &page[..n]) {
+            return Turned {
+                stream,
+                way: FAILED,
+            };
+        }
+    }
+    Turned { stream, way: ON }
+}
+
+// One read, and the answer to what came.
+fn turn(s: Stream) -> Turned {
+    let mut chunk = io::large_buffer();
+    let got = libc::read(0, &mut chunk);
+    if got < 0 {
+        return Turned {
+            stream: s,
+            way: FAILED,
+        };
+    }
+    if got == 0 {
+        return Turned {
+            stream: s,
+            way: ENDED,
+        };
+    }
+    let n = io::count(got, &chunk);
+    pour(s, &chunk[..n])
+}
+
+// The end of the input: the reply to a line that has begun.
+fn last(s: Stream) {
+    let mut page = io::buffer();
+    let n = frames::stream::finish(s, &mut page);
+    io::write_all(1, &page[..n]);
+}
+
+// Each turn takes a byte at least, so 2^64 - 1 turns are more than any input has.
+fn main() {
+    let mut stream = frames::stream::begin();
+    let mut turns = u64::MAX;
+    while turns > 0 {
+        turns -= 1;
+        let turned = turn(stream);
+        let next = turned.stream;
+        stream = next;
+        let way = turned.way;
+        if way == ENDED {
+            last(stream);
+            return;
+        }
+        if way == FAILED {
+            return;
+        }
+    }
+}
