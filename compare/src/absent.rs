@@ -8,9 +8,9 @@ pub const SPHERE: &[Function] = &[];
 
 /// Commands that are refused before they get here.
 macro_rules! refused {
-    ($($name:ident($($argument:ty)?) -> $answer:ty;)+) => {
+    ($($name:ident::$function:ident($($argument:ty),*) -> $answer:ty;)+) => {
         $(pub mod $name {
-            pub fn run($(_: $argument)?) -> $answer {
+            pub fn $function($(_: $argument),*) -> $answer {
                 unreachable!("there is no original")
             }
         })+
@@ -18,7 +18,12 @@ macro_rules! refused {
 }
 
 refused! {
-    answering() -> std::io::Result<()>;
-    chases(u64) -> ();
-    solves() -> std::io::Result<bool>;
+    answering::run() -> std::io::Result<()>;
+    boards::run(u64) -> std::io::Result<bool>;
+    chases::run(u64) -> ();
+    plot::run() -> std::io::Result<()>;
+    plots::run(u64) -> std::io::Result<bool>;
+    solves::run() -> std::io::Result<bool>;
+    speeds::run() -> std::io::Result<bool>;
+    stored::write(&str, &str) -> std::io::Result<()>;
 }

@@ -1,12 +1,18 @@
 //! Inputs: a fixed list of boundaries for each function, then classes of drawn ones that take
 //! turns.
 
+pub mod calls;
 pub mod classes;
 mod corners;
 pub mod fixed;
+pub mod frames;
+pub mod full_boards;
+pub mod malformed;
+pub mod questions;
 pub mod random;
 mod scene_corners;
 pub mod scenes;
+mod ships;
 mod units;
 pub mod vectors;
 

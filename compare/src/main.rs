@@ -26,21 +26,30 @@ mod second;
 mod stream;
 mod time;
 
-use original::{answering, chases, solves};
+use original::{answering, boards, chases, plot, plots, solves, speeds, stored};
 use std::{env, io, process::ExitCode};
 
 const USAGE: &str = "usage: compare scale [N] | time | jord [N] | sphere [N] | chases [N] | solves \
-                     | answer | sample STDIN STDOUT | probe [N]";
+                     | answer | sample STDIN STDOUT | probe [N] | board [N] | plots [N] | speeds \
+                     | plot | session STDIN STDOUT";
 const NOT_LINKED: &str =
     "no library: run `rt staticlib exports` in the repository's root, then build again";
 const NOT_BUILT: &str = "no original: put its source in ../../shared/docs/src, or name its folder \
                          in JORD_SRC, then build again";
+/// Commands that need the original.
+const ORIGINAL: [&str; 12] = [
+    "jord", "sphere", "chases", "solves", "answer", "sample", "probe", "board", "plots", "speeds",
+    "plot", "session",
+];
 /// Drawn inputs for each function, unless the command says otherwise.
 const SCALE: u64 = 10_000_000;
 const JORD: u64 = 1_000_000;
 const SPHERE: u64 = 2_000_000;
 const CHASES: u64 = 1_000_000;
 const PROBE: u64 = 20_000;
+/// Calls of boards, and lines of `plot`.
+const BOARD: u64 = 1_000_000;
+const PLOTS: u64 = 5_000_000;
 
 fn main() -> ExitCode {
     let words: Vec<String> = env::args().skip(1).collect();
@@ -59,11 +68,7 @@ fn main() -> ExitCode {
 fn run(words: &[&str]) -> Result<bool, String> {
     match words {
         ["scale" | "time", ..] if !ours::LINKED => Err(NOT_LINKED.into()),
-        ["jord" | "sphere" | "chases" | "solves" | "answer" | "sample" | "probe", ..]
-            if !original::BUILT =>
-        {
-            Err(NOT_BUILT.into())
-        }
+        [command, ..] if ORIGINAL.contains(command) && !original::BUILT => Err(NOT_BUILT.into()),
         ["scale", rest @ ..] => Ok(scale::run(count(rest, SCALE)?)),
         ["time"] => {
             time::run();
@@ -80,6 +85,13 @@ fn run(words: &[&str]) -> Result<bool, String> {
         }
         ["solves"] => solves::run().map_err(unfit),
         ["answer"] => answering::run().map(|()| true).map_err(|error| error.to_string()),
+        ["session", stdin, stdout] => stored::write(stdin, stdout)
+            .map(|()| true)
+            .map_err(|error| format!("the session is not written: {error}")),
+        ["board", rest @ ..] => boards::run(count(rest, BOARD)?).map_err(unplotted),
+        ["plots", rest @ ..] => plots::run(count(rest, PLOTS)?).map_err(unplotted),
+        ["speeds"] => speeds::run().map_err(unplotted),
+        ["plot"] => plot::run().map(|()| true).map_err(|error| error.to_string()),
         ["probe", rest @ ..] => probe::compare(count(rest, PROBE)?).map_err(unfit),
         _ => Err(USAGE.into()),
     }
@@ -88,6 +100,10 @@ fn run(words: &[&str]) -> Result<bool, String> {
 /// The program could not be run.
 fn unfit(error: io::Error) -> String {
     format!("target/bin/probe: {error}")
+}
+
+fn unplotted(error: io::Error) -> String {
+    format!("target/bin/plot: {error}")
 }
 
 /// The one number handed over, or the usual one.

@@ -2,11 +2,23 @@
 //! call.
 
 pub mod answering;
+mod board;
+pub mod boards;
 pub mod chases;
 mod examples;
+mod exchanges;
+mod frame;
 mod meetings;
+mod met;
+mod playing;
+pub mod plot;
+pub mod plots;
+mod script;
+mod sessions;
 mod shapes;
 pub mod solves;
+pub mod speeds;
+pub mod stored;
 mod walks;
 
 use crate::answer::{ANTIPODAL, Answer, EMPTY};

@@ -4,6 +4,7 @@ use super::SPHERE;
 use super::shapes::{Argument, taken};
 use super::walks::{self, Line};
 use crate::answer::{Answer, Walk};
+use crate::hexadecimal::VALUES;
 use crate::jord::spherical::Sphere;
 use crate::jord::{NVector, Vehicle};
 use std::io::{self, BufRead, BufWriter, Write};
@@ -50,15 +51,7 @@ fn walked(number: u8, mut words: &[u64]) -> Option<Answer> {
 
 pub fn solved(words: &[u64]) -> Line<Walk> {
     let (sphere, own, track, target) = arguments(words);
-    walks::line(sphere, own, track, target, || {
-        let (from, speed) = (own.position(), own.speed());
-        [
-            walks::watched_cpa(sphere, own, target),
-            walks::watched_intercept(sphere, from, speed, target),
-            walks::watched_longest(sphere, from, target),
-        ]
-        .map(|(walk, _)| walk)
-    })
+    walks::watched_solve(sphere, own, track, target)
 }
 
 /// A solve's arguments.
@@ -81,20 +74,9 @@ fn parsed(line: &[u8], words: &mut Vec<u64>) -> Option<u8> {
 /// Some lowercase digits; all are looked up before any is judged, for speed.
 fn digits(field: &[u8], count: usize) -> Option<u64> {
     let add = |(word, all): (u64, u8), byte: &u8| {
-        let digit = DIGITS[*byte as usize];
+        let digit = VALUES[*byte as usize];
         (word << 4 | (digit & 15) as u64, all | digit)
     };
     let (word, all) = field.iter().fold((0, 0), add);
     (field.len() == count && all < 16).then_some(word)
 }
-
-/// The value of a digit; 16 for what is none.
-const DIGITS: [u8; 256] = {
-    let mut values = [16; 256];
-    let mut value = 0;
-    while value < 16 {
-        values[b"0123456789abcdef"[value] as usize] = value as u8;
-        value += 1;
-    }
-    values
-};

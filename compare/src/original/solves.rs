@@ -18,8 +18,8 @@ const STREAM: u64 = 1 << 18;
 /// In the build's own folder.
 const FOLDER: &str = env!("OUT_DIR");
 /// The sides, in names of files.
-const HERE: &str = "here";
-const RUST: &str = "rust";
+pub const HERE: &str = "here";
+pub const RUST: &str = "rust";
 
 /// What is timed: a name, and for each scene a line for each number.
 type Case = (&'static str, &'static [(u8, Layout)]);
@@ -85,7 +85,7 @@ fn print(timed: &[Timed], [plain, watched]: [f64; 2]) {
     println!("| the original | {plain:.1} |\n| its watched copy | {watched:.1} |");
 }
 
-fn lesser(a: [f64; 2], b: [f64; 2]) -> [f64; 2] {
+pub fn lesser(a: [f64; 2], b: [f64; 2]) -> [f64; 2] {
     [a[0].min(b[0]), a[1].min(b[1])]
 }
 
@@ -112,7 +112,7 @@ fn both(file: &str) -> io::Result<[f64; 2]> {
 }
 
 /// Milliseconds from the start of a program to its end, from a file into a file.
-fn once(program: &OsStr, words: &[&str], file: &str, side: &str) -> io::Result<f64> {
+pub fn once(program: &OsStr, words: &[&str], file: &str, side: &str) -> io::Result<f64> {
     let (stdin, stdout) = (File::open(file)?, File::create(answers(side))?);
     let start = Instant::now();
     let status = Command::new(program).args(words).stdin(stdin).stdout(stdout).status()?;
@@ -120,7 +120,8 @@ fn once(program: &OsStr, words: &[&str], file: &str, side: &str) -> io::Result<f
     status.success().then_some(time).ok_or_else(|| io::Error::other(format!("{status}")))
 }
 
-fn answers(side: &str) -> String {
+/// The file of a side's answers.
+pub fn answers(side: &str) -> String {
     format!("{FOLDER}/answers-{side}")
 }
 

@@ -99,10 +99,10 @@ fn walk(number: u8, count: usize, duration: Option<Duration>) -> Walk {
 
 /// Document 01's line.
 pub struct Line<W> {
-    distance: f64,
-    bearing: f64,
-    side: u8,
-    offset: f64,
+    pub distance: f64,
+    pub bearing: f64,
+    pub side: u8,
+    pub offset: f64,
     pub walks: [W; 3],
 }
 
@@ -133,6 +133,24 @@ pub fn solve(sphere: Sphere, own: Vehicle, track: [NVector; 2], target: Vehicle)
             time_to_intercept(sphere, from, speed, target),
             max_time_to_intercept(sphere, from, target),
         ]
+    })
+}
+
+/// A solve by the watched copy alone, which takes half the time.
+pub fn watched_solve(
+    sphere: Sphere,
+    own: Vehicle,
+    track: [NVector; 2],
+    target: Vehicle,
+) -> Line<Walk> {
+    let (from, speed) = (own.position(), own.speed());
+    line(sphere, own, track, target, || {
+        [
+            watched_cpa(sphere, own, target),
+            watched_intercept(sphere, from, speed, target),
+            watched_longest(sphere, from, target),
+        ]
+        .map(|(walk, _)| walk)
     })
 }
 

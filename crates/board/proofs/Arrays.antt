@@ -14,7 +14,7 @@ use lib.Seq.{take-suc-set, drop-set-lt, getD-drop, take-suc, drop-cons, set-at, 
 use lib.Ieee.{nan}
 use Rattle.board.specs.declared.targets.Target.{Target}
 use Rattle.board.specs.declared.targets.Lined.the-variants.{Bare}
-use Rattle.board.specs.Targets.{spotFrom}
+use Rattle.board.specs.Targets.{spotIn, spotFrom}
 
 module _ {A : Type 0} where
   -- t before place p
@@ -91,29 +91,30 @@ absent =
       held = record { report = record { position = record { 0 = record { x = nan; y = nan; z = nan } }; bearing = record { radians = nan }; speed = record { mps = nan } }; line = Bare };
     }
 
--- a search of the first n of a list has passed i of them: it goes on past a target below the identity, and ends at one that is not, or at n
-module _ (x n : ℕ) (ts : List Target) (i : ℕ) (d : Target) (fit : n ≤ length ts) (h : spotFrom 0 x (take n ts) ≡ spotFrom i x (drop i (take n ts))) where
-  look : i < n → drop i (take n ts) ≡ getD ts i d ∷ drop (suc i) (take n ts)
+-- a search of the first n of a list has passed i of them: it goes on past an identity below the one sought, and ends at one that is not,
+-- or at n
+module _ (x n : ℕ) (ks : List ℕ) (i : ℕ) (fit : n ≤ length ks) (h : spotIn 0 x (take n ks) ≡ spotIn i x (drop i (take n ks))) where
+  look : i < n → drop i (take n ks) ≡ getD ks i 0 ∷ drop (suc i) (take n ks)
   look below =
-      let l : i < length (take n ts) = rw (length-take-le n ts) below in
-      rw (drop-cons (take n ts) i d, getD-take n ts i d)
+      let l : i < length (take n ks) = rw (length-take-le n ks) below in
+      rw (drop-cons (take n ks) i 0, getD-take n ks i 0)
 
-  pub search-on : i < n → getD ts i d .identity < x → spotFrom 0 x (take n ts) ≡ spotFrom (i + 1) x (drop (i + 1) (take n ts))
-  unfolding spotFrom
-  search-on below b = h ∙ rw (look below, lt-ltb (getD ts i d .identity) x b, add-one)
+  pub search-on : i < n → getD ks i 0 < x → spotIn 0 x (take n ks) ≡ spotIn (i + 1) x (drop (i + 1) (take n ks))
+  unfolding spotIn
+  search-on below b = h ∙ rw (look below, lt-ltb (getD ks i 0) x b, add-one)
 
-  pub search-held : i < n → x ≤ getD ts i d .identity → x ≡ getD ts i d .identity → At i ≡ spotFrom 0 x (take n ts)
-  unfolding spotFrom
-  search-held below b e = sym (h ∙ rw (look below, le-ltb (getD ts i d .identity) x b, eq-eqb x (getD ts i d .identity) e))
+  pub search-held : i < n → x ≤ getD ks i 0 → x ≡ getD ks i 0 → At i ≡ spotIn 0 x (take n ks)
+  unfolding spotIn
+  search-held below b e = sym (h ∙ rw (look below, le-ltb (getD ks i 0) x b, eq-eqb x (getD ks i 0) e))
 
-  pub search-free : i < n → x ≤ getD ts i d .identity → (x ≡ getD ts i d .identity → ⊥) → Before i ≡ spotFrom 0 x (take n ts)
-  unfolding spotFrom
-  search-free below b e = sym (h ∙ rw (look below, le-ltb (getD ts i d .identity) x b, ne-eqb x (getD ts i d .identity) e))
+  pub search-free : i < n → x ≤ getD ks i 0 → (x ≡ getD ks i 0 → ⊥) → Before i ≡ spotIn 0 x (take n ks)
+  unfolding spotIn
+  search-free below b e = sym (h ∙ rw (look below, le-ltb (getD ks i 0) x b, ne-eqb x (getD ks i 0) e))
 
-pub search-out : (x n : ℕ) (ts : List Target) (i : ℕ) → n ≤ length ts → spotFrom 0 x (take n ts) ≡ spotFrom i x (drop i (take n ts)) → n ≤ i → Before i ≡ spotFrom 0 x (take n ts)
-unfolding spotFrom
-search-out x n ts i fit h out =
-    let e : drop i (take n ts) ≡ [] = drop-of-length-le (take n ts) {i = i} (rw (length-take-le n ts) out) in
+pub search-out : (x n : ℕ) (ks : List ℕ) (i : ℕ) → n ≤ length ks → spotIn 0 x (take n ks) ≡ spotIn i x (drop i (take n ks)) → n ≤ i → Before i ≡ spotIn 0 x (take n ks)
+unfolding spotIn
+search-out x n ks i fit h out =
+    let e : drop i (take n ks) ≡ [] = drop-of-length-le (take n ks) {i = i} (rw (length-take-le n ks) out) in
     sym (h ∙ rw e)
 
 -- what follows from a choice by a test follows from each side
@@ -123,7 +124,7 @@ cond-cases false f g e = g e
 
 -- a place that a search gives is within the list
 pub held-within : (i x : ℕ) (l : List Target) (p : ℕ) → spotFrom i x l ≡ At p → p < i + length l
-unfolding spotFrom
+unfolding spotFrom spotIn
 held-within i x [] p e = let z : _≡_ {A = ℕ} 0 1 = cc in omega arith
 held-within i x (t ∷ ts) p e =
     cond-cases (ltb (t .identity) x) (λ q. omega (arith, held-within (suc i) x ts p q))
@@ -131,7 +132,7 @@ held-within i x (t ∷ ts) p e =
     e
 
 pub free-within : (i x : ℕ) (l : List Target) (p : ℕ) → spotFrom i x l ≡ Before p → p ≤ i + length l
-unfolding spotFrom
+unfolding spotFrom spotIn
 free-within i x [] p e = let z : i ≡ p = cc in omega arith
 free-within i x (t ∷ ts) p e =
     cond-cases (ltb (t .identity) x) (λ q. omega (arith, free-within (suc i) x ts p q))

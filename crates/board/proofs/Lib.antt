@@ -16,3 +16,4 @@ pub mod Played
 pub mod Loops
 pub mod Picks
 pub mod Means
+pub mod Glances

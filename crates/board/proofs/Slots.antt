@@ -163,7 +163,7 @@ module _ (ts : Targets) (x n : ℕ) (full : length (ts .entries) ≡ 64) (e : n 
   pub removed-not : (p : ℕ) → s ≡ Before p → listed ts ≡ place x Nothing (listed ts)
   removed-not p k = sym list ∙ removed-none (ts .entries) n full small x p (sym q ∙ k) ∙ ap (place x Nothing) list
 
-take-bared : (n : ℕ) (l : List Target) → take n (map bareTarget l) ≡ bared (take n l)
+pub take-bared : (n : ℕ) (l : List Target) → take n (map bareTarget l) ≡ bared (take n l)
 unfolding bared
 take-bared zero l = refl
 take-bared (suc n) [] = refl

@@ -7,16 +7,18 @@ use mathlib.Core.Bool.{Bool, true, false, cond}
 use mathlib.Core.List.{List, [], _∷_, _++_}
 use lib.Dec.{ltb, eqb}
 use lib.ListN.{take, drop, set, getD}
+use borrow.Author.Tests.{eqb-true}
 use Rattle.board.specs.declared.targets.Held.{Held}
 use Rattle.board.specs.declared.targets.Target.{Target}
 use Rattle.board.specs.declared.targets.Found.the-variants.{Nothing, There}
 use Rattle.board.specs.declared.targets.Spot.{Spot}
 use Rattle.board.specs.declared.targets.Spot.the-variants.{At, Before}
-use Rattle.board.specs.Targets.{find, ahead, place, spotFrom}
+use Rattle.board.specs.Targets.{find, ahead, place, spotIn, spotFrom}
 use Rattle.board.proofs.Arrays.{absent, insertAt}
 
 -- the identity stands at k of the list
 pub record StandsAt (x : ℕ) (l : List Target) (k : ℕ) : Type 0 where
+  pub named : getD l k absent .identity ≡ x
   pub looked : find x l ≡ There (getD l k absent .held)
   pub stored : (h : Held) → set l k (record { identity = x; held = h }) ≡ place x (There h) l
   pub without : take k l ++ drop (suc k) l ≡ place x Nothing l
@@ -59,7 +61,7 @@ shift-step i false true f g e = ap At (omega arith)
 shift-step i false false f g e = ap Before (omega arith)
 
 shifted : (i x : ℕ) (l : List Target) → spotFrom i x l ≡ shift i (spotOf x l)
-unfolding spotFrom
+unfolding spotFrom spotIn
 shifted i x [] = ap Before (omega arith)
 shifted i x (u ∷ us) =
     shift-step i (ltb (u .identity) x) (eqb x (u .identity)) (spotFrom (suc i) x us) (spotOf x us) (shifted (suc i) x us)
@@ -69,6 +71,7 @@ says-step : (x : ℕ) (u : Target) (us : List Target) (a b : Bool) (f : Spot) �
 unfolding find place ahead
 says-step x u us true b (At k) ea eb s =
     record {
+      named = s .named;
       looked = rw ea (s .looked);
       stored = λ h. rw ea (ap (λ (l : List Target). u ∷ l) (s .stored h));
       without = rw ea (ap (λ (l : List Target). u ∷ l) (s .without));
@@ -79,7 +82,7 @@ says-step x u us true b (Before k) ea eb s =
       placed = λ h. rw ea (ap (λ (l : List Target). u ∷ l) (s .placed h));
       without = rw ea (ap (λ (l : List Target). u ∷ l) (s .without));
     }
-says-step x u us false true f ea eb s = record { looked = rw (ea, eb); stored = λ h. rw (ea, eb); without = rw (ea, eb) }
+says-step x u us false true f ea eb s = record { named = sym (eqb-true x (u .identity) eb); looked = rw (ea, eb); stored = λ h. rw (ea, eb); without = rw (ea, eb) }
 says-step x u us false false f ea eb s = record { looked = rw (ea, eb); placed = λ h. rw (ea, eb); without = rw (ea, eb) }
 
 says : (x : ℕ) (l : List Target) → Says x l (spotOf x l)

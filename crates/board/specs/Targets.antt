@@ -2,9 +2,9 @@
 -- A list is read from the front up to the first identity that is not below the one sought.
 use Prim.Native.Nat.{ℕ, suc, _≤_}
 use mathlib.Core.Bool.{cond}
-use mathlib.Core.List.{List, [], _∷_}
+use mathlib.Core.List.{List, [], _∷_, _++_, map}
 use lib.Dec.{ltb, eqb}
-use lib.ListN.{take, replicate}
+use lib.ListN.{take, drop, replicate}
 use Rattle.jord.specs.Angle as angle
 use Rattle.jord.specs.Speed as speed
 use Rattle.jord.specs.Vec3 as vec3
@@ -62,10 +62,21 @@ atMost64 n = cond (ltb n 64) n 64
 unfoldable pub listed : Targets → List Target
 listed ts = take (atMost64 (ts .count)) (ts .entries)
 
--- where an identity stands in the list, or before which place it would; i targets stand before the list
+abbrev pub identityOf : Target → ℕ
+identityOf t = t .identity
+
+-- the identities of the first n entries, then zeros
+unfoldable pub identities : List Target → ℕ → List ℕ
+identities es n = map identityOf (take n es) ++ drop n (replicate 64 0)
+
+-- where an identity stands among identities, or before which place it would; i stand before the list
+unfoldable pub spotIn : ℕ → ℕ → List ℕ → Spot
+spotIn i x [] = Before i
+spotIn i x (k ∷ l) = cond (ltb k x) (spotIn (suc i) x l) (cond (eqb x k) (At i) (Before i))
+
+-- the same among targets
 unfoldable pub spotFrom : ℕ → ℕ → List Target → Spot
-spotFrom i x [] = Before i
-spotFrom i x (t ∷ l) = cond (ltb (t .identity) x) (spotFrom (suc i) x l) (cond (eqb x (t .identity)) (At i) (Before i))
+spotFrom i x l = spotIn i x (map identityOf l)
 
 -- what fills an array in which none stands
 abbrev blank : Target

@@ -109,7 +109,7 @@ pub fn hear(board: Board, call: Call) -> Answered
 }
 
 // Whether the answer is a refusal.
-fn refuses(answer: Answer) -> bool
+pub fn refuses(answer: Answer) -> bool
     ensures { λ r. ⌜ r ≡ not (accepts answer) ⌝ }
 {
     match answer {
@@ -169,7 +169,7 @@ fn accepted(board: Board, call: Call, answer: Answer) -> Board
 }
 
 // The own ship after an accepted call.
-fn own_after(call: Call, own: Own) -> Own
+pub fn own_after(call: Call, own: Own) -> Own
     ensures { λ r. ⌜ r ≡ spec.ownAfter call own ⌝ }
 {
     match call {
@@ -182,7 +182,7 @@ fn own_after(call: Call, own: Own) -> Own
 }
 
 // The track after an accepted call.
-fn track_after(call: Call, track: Tracked) -> Tracked
+pub fn track_after(call: Call, track: Tracked) -> Tracked
     ensures { λ r. ⌜ r ≡ spec.trackAfter call track ⌝ }
 {
     match call {

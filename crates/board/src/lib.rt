@@ -2,6 +2,7 @@
 pub mod asking;
 pub mod board;
 pub mod call;
+pub mod glance;
 pub mod line;
 pub mod questions;
 pub mod state;

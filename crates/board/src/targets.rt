@@ -42,7 +42,7 @@ pub enum Found {
 }
 
 // Where an identity stands, or where it would.
-enum Spot {
+pub enum Spot {
     At(usize),
     Before(usize),
 }
@@ -145,14 +145,44 @@ pub fn clear(targets: Targets) -> Targets
     }
 }
 
+// The identities of the targets that stand, then zeros.
+pub fn identities(targets: Targets) -> [u16; 64]
+    ensures { λ r. ⌜ (r ≡ spec.identities (targets .entries) (spec.atMost64 (targets .count))) × (length (targets .entries) ≡ 64) ⌝ }
+{
+    let entries = targets.entries;
+    identities_of(entries, least(targets.count))
+}
+
+// The identities of the first n entries, then zeros.
+fn identities_of(entries: [Target; 64], n: usize) -> [u16; 64]
+    requires { ⌜ n ≤ 64 ⌝ }
+    ensures { λ r. ⌜ (r ≡ spec.identities entries n) × (length entries ≡ 64) ⌝ }
+{
+    let mut out = [0u16; 64];
+    let mut i = 0;
+    while i < n {
+        out[i] = entries[i].identity;
+        i += 1;
+    }
+    out
+}
+
 // Where an identity stands among the first n entries, or before which it would.
 fn locate(entries: [Target; 64], n: usize, identity: u16) -> Spot
     requires { ⌜ n ≤ 64 ⌝ }
     ensures { λ r. ⌜ (r ≡ spec.spotFrom 0 identity (take n entries)) × (length entries ≡ 64) ⌝ }
 {
+    seek(identities_of(entries, n), n, identity)
+}
+
+// Where an identity stands among the first of these, at most 64, or before which it would.
+pub fn seek(ids: [u16; 64], count: usize, identity: u16) -> Spot
+    ensures { λ r. ⌜ r ≡ spec.spotIn 0 identity (take (spec.atMost64 count) ids) ⌝ }
+{
+    let n = least(count);
     let mut i = 0;
     while i < n {
-        let k = entries[i].identity;
+        let k = ids[i];
         if identity <= k {
             if identity == k {
                 return Spot::At(i);
@@ -225,7 +255,7 @@ fn bare(t: Target) -> Target
 }
 
 // Every entry without its line.
-fn bared(entries: [Target; 64]) -> [Target; 64]
+pub fn bared(entries: [Target; 64]) -> [Target; 64]
     ensures { λ r. ⌜ r ≡ map spec.bareTarget entries ⌝ }
 {
     let mut out = entries;

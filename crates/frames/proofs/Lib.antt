@@ -4,3 +4,4 @@ pub mod Sessions
 pub mod Texts
 pub mod Pieces
 pub mod Turns
+pub mod Quicks

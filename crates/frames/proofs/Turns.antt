@@ -2,13 +2,15 @@
 use Prim.Native.Nat.{ℕ, zero, suc, _+_, _≤_, _<_}
 use mathlib.Core.List.{List, [], _∷_, _++_, append-nil}
 use mathlib.Core.Option.{Option}
-use mathlib.Core.Path.{_≡_, refl, sym, ap, _∙_}
+use mathlib.Core.Path.{_≡_, refl, sym, ap, _∙_, subst}
 use native.Mathlib.Numerals.{add-one}
 use native.Mathlib.Omega.{arith}
 use borrow.Author.Tests.{ne-eqb, lt-ltb, le-ltb}
 use lib.ListN.{length, take, set, getD}
 use lib.Seq.{take-all, take-suc, take-suc-set, length-take-le}
 use Rattle.board.specs.Board.{Plain}
+use Rattle.board.specs.Glance.{settingOf, boardOf}
+use Rattle.board.specs.declared.glance.Setting.{Setting}
 use Rattle.hex.specs.Write.{Put, Wrote}
 use Rattle.hex.proofs.Write.{then, as-length, put-wrote, wrote-byte, wrote-nothing}
 use Rattle.frames.specs.declared.frame.Frame.{Frame}
@@ -18,10 +20,11 @@ use Rattle.frames.specs.declared.session.Stepped.{Stepped}
 use Rattle.frames.specs.declared.stream.Answered.{Answered}
 use Rattle.frames.specs.declared.stream.Stream.{Stream}
 use Rattle.frames.specs.Frame.{frameOf}
+use Rattle.frames.specs.Quick.{sessionOf}
 use Rattle.frames.specs.Reply.{replyDigits}
 use Rattle.frames.specs.Session.{next, plainOf, Stepping}
 use Rattle.frames.specs.Whole.{newline, Asked, asked, Text}
-use Rattle.frames.specs.Stream.{kept, room, least, Model, added, stepped, asks, fedState, fedAsks, lastAsks, endAsks, view, Answering, Feeding, Finishing}
+use Rattle.frames.specs.Stream.{kept, room, least, Model, added, stepped, asks, fedState, fedAsks, lastAsks, endAsks, view, PutLine, Answering, Feeding, Finishing}
 use Rattle.frames.proofs.Pieces.{split, state-append, asks-append}
 use Rattle.frames.proofs.Sizes.{reply-short}
 use Rattle.frames.proofs.Texts.{text-append, text-by, text-none, text-one}
@@ -145,16 +148,58 @@ put-room y w h = put-wrote w refl (omega (arith, reply-short y))
 pub put-below : {page out : List ℕ} {at n : ℕ} (y : Reply) → Put page at (replyDigits y) out n → at + room ≤ length page → n < length out
 put-below y w h = let v = put-room y w h in omega (arith, v .past, v .long, reply-short y)
 
-pub answering : {s : Session} {f : Frame} {line page mid : List ℕ} {at n : ℕ} {r : Stepped} → f ≡ frameOf line → Stepping s f r
-    → Put page at (replyDigits (r .reply)) mid n → at + room ≤ length page
-    → Answering s line page at (set mid n newline) (record { session = r .session; next = n + 1 })
-answering {s} {f} {line} {page} {mid} {at} {n} {r} e st w h =
+pub put-line : {page mid : List ℕ} {at n : ℕ} (y : Reply) → Put page at (replyDigits y) mid n → at + room ≤ length page
+    → PutLine y page at (set mid n newline) (n + 1)
+put-line {page} {mid} {at} {n} y w h = as-length (then (put-room y w h) (wrote-byte mid n newline (put-below y w h))) refl
+
+pub answering : {s : Session} {f : Frame} {page out : List ℕ} {at n : ℕ} {r : Stepped} {q : Setting} → Stepping s f r
+    → q ≡ settingOf (r .session .board) → PutLine (r .reply) page at out n
+    → Answering s f page at out (record { started = r .session .started; setting = q; targets = r .session .board .targets; next = n })
+unfolding sessionOf boardOf settingOf
+answering {s} {f} {page} {out} {at} {n} {r} {q} st e w =
     record {
-      session-is = st .session-is ∙ rw e;
+      session-is = rw e (st .session-is);
+      counted = rw e;
       text = replyDigits (r .reply) ++ (newline ∷ []);
-      text-of = text-by (ap (λ (g : Frame). asked (plainOf s) g ∷ []) e) (text-one (asked (plainOf s) f) (r .reply) (st .replied));
-      wrote = as-length (then (put-room (r .reply) w h) (wrote-byte mid n newline (put-below (r .reply) w h))) refl;
+      text-of = text-one (asked (plainOf s) f) (r .reply) (st .replied);
+      wrote = w;
     }
+
+-- a newline passed: the frame of its line answered, by a step or by `answer`
+module _ {m : Model} {xs page₀ page line : List ℕ} {s : Session} {n at i : ℕ} (v : Passed m xs page₀ page s line n at i) (h : i < length xs)
+    (e : getD xs i 0 ≡ newline) {f : Frame} (g : f ≡ frameOf (take n line)) where
+  line-passed : {out u : List ℕ} {next′ : ℕ} (t : Session) → plainOf t ≡ next (plainOf s) f → Text (asked (plainOf s) f ∷ []) u
+      → Wrote page at (length u) u out next′ → Passed m xs page₀ out t line 0 next′ (i + 1)
+  line-passed t q k w =
+      record {
+        within = omega arith;
+        fits = omega arith;
+        long = v .long;
+        state = line-state m xs i h (plainOf s) (take n line) (v .state) (plainOf t) e (q ∙ ap (next (plainOf s)) g);
+        answers =
+            answers-by
+            (ap (λ (x : Frame). fedAsks m (take i xs) ++ (asked (plainOf s) x ∷ [])) g
+            ∙ line-asks m xs i h (plainOf s) (take n line) (v .state) e)
+            (answers-then (v .answers) k w);
+      }
+
+  pub passed-step : {out : List ℕ} {next′ : ℕ} {r : Stepped} → Stepping s f r → PutLine (r .reply) page at out next′
+      → Passed m xs page₀ out (r .session) line 0 next′ (i + 1)
+  passed-step {r = r} st w = line-passed (r .session) (st .session-is) (text-one (asked (plainOf s) f) (r .reply) (st .replied)) w
+
+  pub passed-whole : {out : List ℕ} {r : Answered} → Answering s f page at out r
+      → Passed m xs page₀ out (sessionOf (r .started) (r .setting) (r .targets .entries)) line 0 (r .next) (i + 1)
+  passed-whole a = line-passed _ (a .session-is) (a .text-of) (a .wrote)
+
+-- the same of an equal session, and from an equal start
+pub answering-by : {s t : Session} {f : Frame} {page out : List ℕ} {at : ℕ} {r : Answered} → s ≡ t → Answering s f page at out r → Answering t f page at out r
+answering-by {f = f} {page} {out} {at} {r} e a = subst (λ (x : Session). Answering x f page at out r) e a
+
+pub passed-from : {s t : Session} {p xs page₀ page line : List ℕ} {session : Session} {n at i : ℕ} → s ≡ t
+    → Passed (record { board = plainOf s; part = p }) xs page₀ page session line n at i
+    → Passed (record { board = plainOf t; part = p }) xs page₀ page session line n at i
+passed-from {p = p} {xs} {page₀} {page} {line} {session} {n} {at} {i} e v =
+    subst (λ (x : Session). Passed (record { board = plainOf x; part = p }) xs page₀ page session line n at i) e v
 
 -- ---- what `finish` hands back
 
@@ -171,17 +216,18 @@ finished-none {s} {page} {k} l e z =
     }
 
 pub finished-line : {s : Stream} {page out : List ℕ} {k : ℕ} {r : Answered} → length (s .line) ≡ kept → k ≡ least (s .n) → (k ≡ 0 → ⊥)
-    → room ≤ length page → Answering (s .session) (take k (s .line)) page 0 out r → Finishing s page out (r .next)
+    → room ≤ length page → {f : Frame} → f ≡ frameOf (take k (s .line)) → Answering (s .session) f page 0 out r → Finishing s page out (r .next)
 unfolding endAsks
-finished-line {s} {page} {out} {k} {r} l e z h w =
+finished-line {s} {page} {out} {k} {r} l e z h {f} g w =
     record {
       no-room = λ g. let y : ⊥ = omega (arith, h, g) in absurd y;
-      finished = λ g.
+      finished = λ u.
           record {
             text = w .text;
             text-of =
                 text-by
-                (begun-asks (plainOf (s .session)) (s .line) k z l ∙ ap (lastAsks (plainOf (s .session))) (clamped (s .line) (s .n) k l e))
+                (ap (λ (x : Frame). asked (plainOf (s .session)) x ∷ []) g
+                ∙ begun-asks (plainOf (s .session)) (s .line) k z l ∙ ap (lastAsks (plainOf (s .session))) (clamped (s .line) (s .n) k l e))
                 (w .text-of);
             wrote = w .wrote;
           };

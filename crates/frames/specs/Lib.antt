@@ -4,3 +4,4 @@ pub mod Session
 pub mod Whole
 pub mod Stream
 pub mod Table
+pub mod Quick

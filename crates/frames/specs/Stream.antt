@@ -8,12 +8,15 @@ use lib.Dec.{eqb, ltb}
 use lib.ListN.{length, take, getD}
 use Rattle.board.specs.Board.{Plain}
 use Rattle.hex.specs.Write.{Wrote}
+use Rattle.frames.specs.declared.frame.Frame.{Frame}
+use Rattle.frames.specs.declared.reply.Reply.{Reply}
 use Rattle.frames.specs.declared.session.Session.{Session}
 use Rattle.frames.specs.declared.stream.Answered.{Answered}
 use Rattle.frames.specs.declared.stream.Fed.{Fed}
 use Rattle.frames.specs.declared.stream.Stream.{Stream}
 use Rattle.frames.specs.Frame.{frameOf, longest}
-use Rattle.frames.specs.Reply.{longestReply}
+use Rattle.frames.specs.Reply.{replyDigits, longestReply}
+use Rattle.frames.specs.Quick.{sessionOf}
 use Rattle.frames.specs.Session.{next, plainOf}
 use Rattle.frames.specs.Whole.{newline, Asked, asked, Text}
 
@@ -86,11 +89,16 @@ joined (xs ∷ pieces) = xs ++ joined pieces
 abbrev pub view : Stream → Model
 view s = record { board = plainOf (s .session); part = take (s .n) (s .line) }
 
--- the reply to a line, with its newline, over a page
-pub record Answering (s : Session) (line page : List ℕ) (at : ℕ) (out : List ℕ) (r : Answered) : Type 0 where
-  pub session-is : plainOf (r .session) ≡ next (plainOf s) (frameOf line)
+-- a reply and its newline, written over a page
+abbrev pub PutLine : Reply → List ℕ → ℕ → List ℕ → ℕ → Type 0
+PutLine y page at out next = Wrote page at (length (replyDigits y ++ (newline ∷ []))) (replyDigits y ++ (newline ∷ [])) out next
+
+-- the reply to a frame, with its newline, over a page, and the session in its parts
+pub record Answering (s : Session) (f : Frame) (page : List ℕ) (at : ℕ) (out : List ℕ) (r : Answered) : Type 0 where
+  pub session-is : plainOf (sessionOf (r .started) (r .setting) (r .targets .entries)) ≡ next (plainOf s) f
+  pub counted : r .targets .count ≡ r .setting .count
   pub text : List ℕ
-  pub text-of : Text (asked (plainOf s) (frameOf line) ∷ []) text
+  pub text-of : Text (asked (plainOf s) f ∷ []) text
   pub wrote : Wrote page at (length text) text out (r .next)
 
 -- the bytes used of a piece, and their answer over the page from its start; where not all are used, the next is a newline

@@ -16,6 +16,9 @@ const NO_KIND: u8 = 0xff;
 // The number in that reply.
 const NO_FRAME: u8 = 1;
 
+// The digits of the longest reply, a line's.
+pub const LONGEST: usize = 114;
+
 // A reply by value.
 pub enum Reply {
     // A kind that is done and hands out nothing.
@@ -110,7 +113,7 @@ pub fn size(reply: Reply) -> usize
     match reply {
         Reply::Done(_) => 4,
         Reply::Refused(_, _) => 4,
-        Reply::Solved(_) => 114,
+        Reply::Solved(_) => LONGEST,
         Reply::Mean(_) => 52,
         Reply::Pick(_) => 8,
         Reply::Total(_) => 12,

@@ -40,7 +40,7 @@ pub fn begin() -> Session
 }
 
 // The kind of a call.
-fn kind_of(call: Call) -> u8
+pub fn kind_of(call: Call) -> u8
     ensures { λ r. ⌜ r ≡ spec.kindOf call ⌝ }
 {
     match call {
@@ -53,7 +53,7 @@ fn kind_of(call: Call) -> u8
 }
 
 // The reply to a call of this kind, from the board's answer.
-fn told(kind: u8, answer: Answer) -> Reply
+pub fn told(kind: u8, answer: Answer) -> Reply
     ensures { λ r. ⌜ r ≡ spec.told kind answer ⌝ }
 {
     match answer {

@@ -1,72 +1,70 @@
--- The invariant: v is the number of the first i digits.
-use Prim.Native.Nat.{_-_, _≤_, min}
+-- Digits alone are read from the part that they fill, and anything else byte by byte.
+use Prim.Native.Nat.{min}
 use mathlib.Core.Logic.{⊎-elim}
-use mathlib.Core.Path.{_≡_, refl, ap, _∙_}
+use mathlib.Core.Path.{_≡_, sym, ap, _∙_}
 use native.Mathlib.Omega.{arith}
 use Rattle.hex.specs.Hex.{hexAt}
-use Rattle.hex.proofs.Read.{digit-below, number-room, number-next}
+use Rattle.hex.proofs.Read.{part-length, number-part}
+use borrow.Author.Needs.{needs}
 use Rattle.hex.proofs.number_at.Statement.{statement}
 use Rattle.hex.proofs.number_at.Tie as tie
 
-abbrev Inv-loop : tie.InvT-loop
-Inv-loop s at n width v₀ i₀ v i = (width ≡ min n 16) × (i ≤ width) × (v ≡ hexAt s at i)
+width-is : (c : tie.Joined1) → c .if1 .width ≡ min (c .before .before .args .n) 16
+width-is c = ⊎-elim (λ w. omega arith) (λ w. omega arith) (c .if1 .came)
 
-abbrev μ-loop : tie.MeasureT-loop
-μ-loop s at n width v₀ i₀ v i = width - i
+sub-if3 : tie.Need-sub-if3
+sub-if3 c = search needs
 
-loop-holds : tie.Need-loop-holds Inv-loop μ-loop
-unfolding hexAt
-loop-holds c = (⊎-elim (λ w. omega arith) (λ w. omega arith) (c .if1 .came), omega arith, refl)
+add-part : tie.Need-add-part
+add-part c = search needs
 
-mul-v : tie.Need-mul-v Inv-loop μ-loop
-mul-v c =
-    let l = c .before .loop in
-    let a = c .before .before .before .before .args in
-    omega (arith, l .inv .2, number-room (a .s .now) (a .at) (l .i) (omega arith))
+sub-part : tie.Need-sub-part
+sub-part c = search needs
 
-byte-at-requires : tie.Need-byte-at-requires Inv-loop μ-loop
-byte-at-requires c κs = tt
+part-part-start : tie.Need-part-part-start
+part-part-start c = search needs
 
-digit-requires : tie.Need-digit-requires Inv-loop μ-loop
-digit-requires c κs = tt
+part-part-end : tie.Need-part-part-end
+part-part-end c = search needs
 
-add-v : tie.Need-add-v Inv-loop μ-loop
-add-v c =
-    let l = c .before .before .before .loop in
-    let a = c .before .before .before .before .before .before .args in
-    omega (arith, l .inv .2, number-room (a .s .now) (a .at) (l .i) (omega arith), c .digit .ensures, digit-below (c .before .byte-at .result))
+all-digits-requires : tie.Need-all-digits-requires
+all-digits-requires c κs = search needs
 
-add-i : tie.Need-add-i Inv-loop μ-loop
-add-i c = omega arith
+number-of-digits-requires : tie.Need-number-of-digits-requires
+number-of-digits-requires c κs =
+    let j = c .before .before .before .before .before .before in
+    let a = j .before .before .args in
+    let w = width-is j in
+    let l = part-length (a .s .now) (a .at) (j .if1 .width) (omega arith) in
+    (omega arith, sym (c .before .all-digits .ensures) ∙ c .if4 .taken)
 
-loop-less : tie.Need-loop-less Inv-loop μ-loop
-loop-less c = omega arith
-
-loop-again : tie.Need-loop-again Inv-loop μ-loop
-loop-again c =
-    let l = c .before .before .before .loop in
-    let a = c .before .before .before .before .before .before .args in
-    (l .inv .0, omega arith, number-next (a .s .now) (a .at) (l .i) (l .inv .2) (c .before .byte-at .ensures) (c .digit .ensures))
-
-returns : tie.Need-returns Inv-loop μ-loop
+returns : tie.Need-returns
 returns c =
-    let l = c .before .loop in
+    let j = c .before .before .before .before .before .before .before in
+    let a = j .before .before .args in
+    c .number-of-digits .ensures ∙ number-part (a .s .now) (a .at) (j .if1 .width) (omega arith) ∙ ap (hexAt (a .s .now) (a .at)) (width-is j)
+
+number-of-any-requires : tie.Need-number-of-any-requires
+number-of-any-requires c κs =
+    let w = width-is (c .before) in
+    omega arith
+
+returns-2 : tie.Need-returns-2
+returns-2 c =
     let a = c .before .before .before .before .args in
-    let e : l .i ≡ min (a .n) 16 = omega arith in
-    l .inv .2 ∙ ap (hexAt (a .s .now) (a .at)) e
+    c .number-of-any .ensures ∙ ap (hexAt (a .s .now) (a .at)) (width-is (c .before .before))
 
 pub number-at-spec : {M : Type 1} → statement M
 number-at-spec =
     tie.close
     (tie.spec
-    Inv-loop
-    μ-loop
-    loop-holds
-    mul-v
-    byte-at-requires
-    digit-requires
-    add-v
-    add-i
-    loop-less
-    loop-again
-    returns)
+    sub-if3
+    add-part
+    sub-part
+    part-part-start
+    part-part-end
+    all-digits-requires
+    number-of-digits-requires
+    returns
+    number-of-any-requires
+    returns-2)

@@ -27,11 +27,14 @@ array-share-prefix-line c =
     let l : length (a .s .line) ≡ kept = search needs in
     omega (arith, l, c .before .before .before .before .kept .ensures, least-fits (a .s .n))
 
-slice-aggregate-answer : tie.Need-slice-aggregate-answer
-slice-aggregate-answer c =
+slice-aggregate-read : tie.Need-slice-aggregate-read
+slice-aggregate-read c =
     let a = c .before .before .before .before .before .before .before .args in
     let l : length (a .s .line) ≡ kept = search needs in
     sym (length-take-le _ _ (omega (arith, l, c .before .before .before .before .before .kept .ensures, least-fits (a .s .n))))
+
+read-requires : tie.Need-read-requires
+read-requires c κs = search needs
 
 answer-requires : tie.Need-answer-requires
 answer-requires c κs = search needs
@@ -41,9 +44,9 @@ same-length c = search needs
 
 returns-3 : tie.Need-returns-3
 returns-3 c =
-    let a = c .before .before .before .before .before .before .before .before .before .before .before .args in
+    let a = c .before .before .before .before .before .before .before .before .before .before .before .before .args in
     let l : length (a .s .line) ≡ kept = search needs in
-    finished-line l (c .before .before .before .before .before .before .before .before .before .kept .ensures) (c .before .before .before .before .before .before .before .before .if1 .left) (c .before .before .before .before .before .before .before .if2 .left) (c .before .before .answer .ensures)
+    finished-line l (c .before .before .before .before .before .before .before .before .before .before .kept .ensures) (c .before .before .before .before .before .before .before .before .before .if1 .left) (c .before .before .before .before .before .before .before .before .if2 .left) (c .before .before .before .before .read .ensures) (c .before .before .answer .ensures)
 
 pub finish-spec : {M : Type 1} → statement M
 finish-spec =
@@ -53,7 +56,8 @@ finish-spec =
     returns
     returns-2
     array-share-prefix-line
-    slice-aggregate-answer
+    slice-aggregate-read
+    read-requires
     answer-requires
     same-length
     returns-3)

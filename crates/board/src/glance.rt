@@ -1,0 +1,137 @@
+// What a call makes of a board, told from all but the entries of its targets where that is enough. The entries are long: who holds them
+// in place need not hand them over for a report.
+ghost use mathlib.Core.Path.{_≡_};
+ghost use Rattle.board.specs.Glance as spec;
+ghost use Rattle.board.specs.History.{accepts};
+use crate::board::own_after;
+use crate::board::refuses;
+use crate::board::track_after;
+use crate::call::Answer;
+use crate::call::Call;
+use crate::call::Fix;
+use crate::call::vehicle;
+use crate::questions::ask;
+use crate::questions::ask_ends;
+use crate::questions::ask_fix;
+use crate::questions::identity_asked;
+use crate::state::Board;
+use crate::state::Own;
+use crate::state::Tracked;
+use crate::targets::Held;
+use crate::targets::Lined;
+use crate::targets::Spot;
+use crate::targets::Target;
+use crate::targets::Targets;
+use crate::targets::seek;
+
+// All of a board but the entries of its targets.
+pub struct Setting {
+    pub radius: f64,
+    pub own: Own,
+    pub track: Tracked,
+    pub count: usize,
+    pub total: u32,
+}
+
+// What a glance tells of a call.
+pub enum Hint {
+    // Its answer, and the board stays as it was.
+    Stays(Answer),
+    // It is done, and this target takes the place of entry p.
+    Puts(usize, Target),
+    // It is done, every line is taken away, and this is the setting.
+    Sweeps(Setting),
+    // Nothing: the entries have to be looked at.
+    Unclear,
+}
+
+// The setting of a board.
+pub fn setting_of(board: Board) -> Setting
+    ensures { λ r. ⌜ r ≡ spec.settingOf board ⌝ }
+{
+    let own = board.own;
+    let track = board.track;
+    let targets = board.targets;
+    Setting {
+        radius: board.radius,
+        own,
+        track,
+        count: targets.count,
+        total: board.total,
+    }
+}
+
+// The board of a setting and entries.
+pub fn board_of(setting: Setting, entries: [Target; 64]) -> Board
+    ensures { λ r. ⌜ r ≡ spec.boardOf setting entries ⌝ }
+{
+    let own = setting.own;
+    let track = setting.track;
+    let targets = Targets {
+        entries,
+        count: setting.count,
+    };
+    Board {
+        radius: setting.radius,
+        own,
+        track,
+        targets,
+        total: setting.total,
+    }
+}
+
+// What a call makes of every board of this setting whose targets have these identities.
+pub fn glance(setting: Setting, ids: [u16; 64], call: Call) -> Hint
+    ensures { λ r. ⌜ spec.Glanced setting ids call r ⌝ }
+{
+    match call {
+        Call::Report(identity, fix) => at_report(setting, ids, identity, fix),
+        Call::Withdraw(_) => Hint::Unclear,
+        Call::OwnShip(fix) => at_setting(setting, ids, call, ask_fix(fix, Answer::Done)),
+        Call::Track(start, end) => {
+            at_setting(setting, ids, call, ask_ends(start, end, Answer::Done))
+        }
+        Call::Solve(_) => Hint::Unclear,
+    }
+}
+
+// A report of an identity that is held takes its place.
+fn at_report(setting: Setting, ids: [u16; 64], identity: u16, fix: Fix) -> Hint
+    ensures { λ r. ⌜ spec.Glanced setting ids (Call.Report identity fix) r ⌝ }
+{
+    let answer = ask(identity_asked(identity), ask_fix(fix, Answer::Done));
+    if refuses(answer) {
+        return Hint::Stays(answer);
+    }
+    match seek(ids, setting.count, identity) {
+        Spot::At(p) => {
+            let held = Held {
+                report: vehicle(fix),
+                line: Lined::Bare,
+            };
+            let target = Target { identity, held };
+            Hint::Puts(p, target)
+        }
+        Spot::Before(_) => Hint::Unclear,
+    }
+}
+
+// An own ship or a track that is accepted takes every line away.
+fn at_setting(setting: Setting, ids: [u16; 64], call: Call, answer: Answer) -> Hint
+    requires { ⌜ spec.Sets call answer ⌝ }
+    ensures { λ r. ⌜ spec.Glanced setting ids call r ⌝ }
+{
+    if refuses(answer) {
+        return Hint::Stays(answer);
+    }
+    let own = setting.own;
+    let track = setting.track;
+    let after = Setting {
+        radius: setting.radius,
+        own: own_after(call, own),
+        track: track_after(call, track),
+        count: setting.count,
+        total: setting.total,
+    };
+    Hint::Sweeps(after)
+}
