@@ -5,6 +5,7 @@ use crate::function::Function;
 pub const BUILT: bool = false;
 pub const FUNCTIONS: &[Function] = &[];
 pub const SPHERE: &[Function] = &[];
+pub const NINE: &[Function] = &[];
 
 /// Commands that are refused before they get here.
 macro_rules! refused {

@@ -13,6 +13,8 @@ pub const TOO_LONG: u8 = 15;
 /// Document 01's numbers for a mean of nothing and of antipodal entries.
 pub const EMPTY: u8 = 16;
 pub const ANTIPODAL: u8 = 17;
+/// Document 01's number for a fraction that is not within 0.0 to 1.0.
+pub const OUTSIDE: u8 = 18;
 
 /// The pattern that stands for every NaN.
 const NAN: u64 = 0x7ff8_0000_0000_0000;

@@ -15,6 +15,7 @@ pub mod scenes;
 mod ships;
 mod units;
 pub mod vectors;
+mod ways;
 
 use classes::*;
 use random::Random;
@@ -172,6 +173,32 @@ pub const RADIUS_AND_TRIPLES: Inputs =
 
 const ENTRY_CLASSES: [Draw; 17] = with(&[EQUAL, NEAR, CLOSE_BY, ENTRIES, ENTRIES, SWARM, SWARM]);
 pub const MEANS: Inputs = Inputs { fixed: corners::means, classes: &ENTRY_CLASSES };
+
+/// Classes of vectors with a last word of their own.
+const fn ended<const N: usize>(mut classes: [Draw; N], end: fn(&mut Random) -> u64) -> [Draw; N] {
+    let mut place = 0;
+    while place < N {
+        classes[place] = classes[place].ended(end);
+        place += 1;
+    }
+    classes
+}
+
+pub const RADIUS_AND_ANGLES: Inputs = Inputs {
+    fixed: ways::radius_and_angles,
+    classes: &[BITS, ORDINARY, SUBNORMAL, MIXED, SPECIALS, CLOSE, ways::RADIUS_AND_ANGLE],
+};
+pub const RADIUS_AND_ARCS: Inputs = Inputs {
+    fixed: ways::radius_and_arcs,
+    classes: &[BITS, ORDINARY, SUBNORMAL, MIXED, SPECIALS, CLOSE, ways::RADIUS_AND_ARC],
+};
+pub const WAYS: Inputs = Inputs { fixed: ways::ways, classes: &led(ANY) };
+pub const TIMES: Inputs =
+    Inputs { fixed: ways::times, classes: &ended(led(ANY), ways::nanoseconds) };
+pub const PAIRS_AND_ANGLES: Inputs = Inputs { fixed: ways::pairs_and_angles, classes: &TOGETHER };
+pub const PAIRS_AND_FRACTIONS: Inputs =
+    Inputs { fixed: ways::pairs_and_fractions, classes: &ended(TOGETHER, ways::fraction) };
+pub const TRIANGLES: Inputs = Inputs { fixed: ways::triangles, classes: &ENTRY_CLASSES };
 
 pub const APPROACHES: Inputs = Inputs {
     fixed: |reach| scene_corners::inputs(reach, scenes::approach),

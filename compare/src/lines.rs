@@ -60,6 +60,8 @@ const MALFORMED: &[&str] = &[
     "79 3ff0000000000000 ",
     "79 3ff0000000000000 3ff0000000000000 3ff000000000000g",
     "7A",
+    "8d ",
+    "8D",
 ];
 
 /// Numbers with more or fewer arguments than they take, the widest among them.
@@ -86,6 +88,21 @@ const MISCOUNTED: &[(u8, usize)] = &[
     (0x7b, 0),
     (0x7b, 17),
     (0x7f, 6),
+    (0x80, 8),
+    (0x80, 10),
+    (0x82, 9),
+    (0x83, 1),
+    (0x84, 3),
+    (0x85, 5),
+    (0x88, 6),
+    (0x88, 8),
+    (0x8b, 6),
+    (0x8b, 8),
+    (0x8c, 0),
+    (0x8c, 2),
+    (0x8d, 19),
+    (0x8e, 0),
+    (0x8f, 9),
 ];
 
 /// What `probe` is handed: a line that is no call, or a call.
@@ -135,7 +152,7 @@ pub fn each(floats: Share, original: Share, mut meet: impl FnMut(Line)) {
         meet(Line::Malformed(&text(*number, &vec![1f64.to_bits(); *count])));
     }
     FUNCTIONS.iter().for_each(|linked| each_call(&linked.function, floats, &mut meet));
-    let ported = original::FUNCTIONS.iter().chain(original::SPHERE);
+    let ported = original::FUNCTIONS.iter().chain(original::SPHERE).chain(original::NINE);
     ported.for_each(|function| each_call(function, original, &mut meet));
 }
 

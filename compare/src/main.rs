@@ -29,22 +29,23 @@ mod time;
 use original::{answering, boards, chases, plot, plots, solves, speeds, stored};
 use std::{env, io, process::ExitCode};
 
-const USAGE: &str = "usage: compare scale [N] | time | jord [N] | sphere [N] | chases [N] | solves \
-                     | answer | sample STDIN STDOUT | probe [N] | board [N] | plots [N] | speeds \
-                     | plot | session STDIN STDOUT";
+const USAGE: &str = "usage: compare scale [N] | time | jord [N] | sphere [N] | nine [N] | chases [N] \
+                     | solves | answer | sample STDIN STDOUT | probe [N] | board [N] | plots [N] \
+                     | speeds | plot | session STDIN STDOUT";
 const NOT_LINKED: &str =
     "no library: run `rt staticlib exports` in the repository's root, then build again";
 const NOT_BUILT: &str = "no original: put its source in ../../shared/docs/src, or name its folder \
                          in JORD_SRC, then build again";
 /// Commands that need the original.
-const ORIGINAL: [&str; 12] = [
-    "jord", "sphere", "chases", "solves", "answer", "sample", "probe", "board", "plots", "speeds",
-    "plot", "session",
+const ORIGINAL: [&str; 13] = [
+    "jord", "sphere", "nine", "chases", "solves", "answer", "sample", "probe", "board", "plots",
+    "speeds", "plot", "session",
 ];
 /// Drawn inputs for each function, unless the command says otherwise.
 const SCALE: u64 = 10_000_000;
 const JORD: u64 = 1_000_000;
 const SPHERE: u64 = 2_000_000;
+const NINE: u64 = 1_000_000;
 const CHASES: u64 = 1_000_000;
 const PROBE: u64 = 20_000;
 /// Calls of boards, and lines of `plot`.
@@ -79,6 +80,7 @@ fn run(words: &[&str]) -> Result<bool, String> {
             .map_err(|error| format!("the sample is not written: {error}")),
         ["jord", rest @ ..] => piped::jord(count(rest, JORD)?).map_err(unfit),
         ["sphere", rest @ ..] => piped::sphere(count(rest, SPHERE)?).map_err(unfit),
+        ["nine", rest @ ..] => piped::nine(count(rest, NINE)?).map_err(unfit),
         ["chases", rest @ ..] => {
             chases::run(count(rest, CHASES)?);
             Ok(true)

@@ -21,10 +21,10 @@ pub mod speeds;
 pub mod stored;
 mod walks;
 
-use crate::answer::{ANTIPODAL, Answer, EMPTY};
+use crate::answer::{ANTIPODAL, Answer, EMPTY, OUTSIDE};
 use crate::function::Function;
 use crate::inputs;
-use crate::jord::spherical::{GreatCircle, Sphere, base};
+use crate::jord::spherical::{GreatCircle, MinorArc, Sphere, base};
 use crate::jord::{Angle, LatLong, Length, Mat33, NVector, Speed, Vec3, Vehicle, numbers};
 use shapes::{Argument, taken};
 use std::time::Duration;
@@ -142,25 +142,66 @@ pub const SPHERE: &[Function] = &[
         INTERCEPTS: walks::time_to_intercept(s, p, v, intruder)),
     row!(0x78 "Sphere::max_time_to_intercept" (s: Sphere, p: NVector, intruder: Vehicle)
         LONGEST: walks::max_time_to_intercept(s, p, intruder)),
+    row_of_positions(0x79, "Sphere::mean_position"),
+    row!(0x7a "solve" (s: Sphere, own: Vehicle, start: NVector, end: NVector, target: Vehicle)
+        SOLVES: walks::solve(s, own, [start, end], target)),
+];
+
+/// Module 9.
+pub const NINE: &[Function] = &[
+    row!(0x80 "GreatCircle::projection" (start: NVector, end: NVector, p: NVector) VECTOR_TRIPLES:
+        GreatCircle::new(start, end).projection(p).expect("a projection")),
+    row!(0x81 "MinorArc::new" (start: NVector, end: NVector) VECTOR_PAIRS:
+        MinorArc::new(start, end)),
+    row!(0x82 "Sphere::along_track_distance"
+        (s: Sphere, p: NVector, start: NVector, end: NVector) RADIUS_AND_TRIPLES:
+        s.along_track_distance(p, MinorArc::new(start, end))),
+    row!(0x83 "Sphere::angle_to_distance" (s: Sphere, a: Angle) RADIUS_AND_ANGLES:
+        s.angle_to_distance(a)),
+    row!(0x84 "Sphere::distance_to_angle" (s: Sphere, d: Length) RADIUS_AND_ARCS:
+        s.distance_to_angle(d)),
+    row!(0x85 "Sphere::destination_position" (s: Sphere, p: NVector, b: Angle, d: Length) WAYS:
+        s.destination_position(p, b, d)),
+    row!(0x86 "Sphere::final_bearing" (p: NVector, q: NVector) VECTOR_PAIRS:
+        Sphere::final_bearing(p, q)),
+    row!(0x87 "Sphere::position_on_great_circle" (p: NVector, q: NVector, a: Angle)
+        PAIRS_AND_ANGLES: Sphere::position_on_great_circle(p, q, a)),
+    row!(0x88 "Sphere::interpolated_position" (p: NVector, q: NVector, f: f64)
+        PAIRS_AND_FRACTIONS: found(Sphere::interpolated_position(p, q, f), OUTSIDE)),
+    row!(0x89 "Sphere::triangle_mean_position" (p: NVector, q: NVector, r: NVector) TRIANGLES:
+        found(Sphere::triangle_mean_position(p, q, r), ANTIPODAL)),
+    row!(0x8a "Sphere::turn" (a: NVector, b: NVector, c: NVector) VECTOR_TRIPLES:
+        Sphere::turn(a, b, c)),
+    row!(0x8b "Sphere::position_after" (s: Sphere, v: Vehicle, t: Duration) TIMES:
+        s.position_after(v, t)),
+    row!(0x8c "Sphere::radius, EARTH, MOON" (s: Sphere) AMOUNTS:
+        [s, Sphere::EARTH, Sphere::MOON].map(|sphere| sphere.radius().as_metres())),
+    row_of_positions(0x8d, "Sphere::mean_position, lent"),
+];
+
+/// The mean of up to six positions.
+const fn row_of_positions(number: u8, name: &'static str) -> Function {
     Function {
-        number: 0x79,
-        name: "Sphere::mean_position",
+        number,
+        name,
         fewest: 0,
         arity: 18,
         inputs: &inputs::MEANS,
         examples: examples::of,
         reference: mean,
-    },
-    row!(0x7a "solve" (s: Sphere, own: Vehicle, start: NVector, end: NVector, target: Vehicle)
-        SOLVES: walks::solve(s, own, [start, end], target)),
-];
+    }
+}
+
+/// 00 and a position, or the number of the question that refused it.
+fn found(position: Option<NVector>, refusal: u8) -> Answer {
+    match position {
+        Some(position) => Answer::Row(vec![Answer::Byte(0), position.into()]),
+        None => Answer::Byte(refusal),
+    }
+}
 
 /// Three words to a position; one or two left over count for nothing.
 fn mean(words: &[u64]) -> Answer {
     let positions: Vec<NVector> = words.chunks_exact(3).map(NVector::of).collect();
-    match Sphere::mean_position(&positions) {
-        Some(mean) => Answer::Row(vec![Answer::Byte(0), mean.into()]),
-        None if positions.is_empty() => Answer::Byte(EMPTY),
-        None => Answer::Byte(ANTIPODAL),
-    }
+    found(Sphere::mean_position(&positions), if positions.is_empty() { EMPTY } else { ANTIPODAL })
 }

@@ -11,7 +11,7 @@ const REACH: u32 = 4;
 /// The walks meet twice as many inputs as the rest of the sphere.
 const WALKS: RangeInclusive<u8> = 0x76..=0x78;
 /// Answers that begin with a kind: an outcome's number.
-const OUTCOMES: RangeInclusive<u8> = 0x76..=0x79;
+const OUTCOMES: [u8; 7] = [0x76, 0x77, 0x78, 0x79, 0x88, 0x89, 0x8d];
 
 /// Whether nothing differs on so many drawn inputs for each function of modules 1 to 6.
 pub fn jord(drawn: u64) -> io::Result<bool> {
@@ -21,6 +21,11 @@ pub fn jord(drawn: u64) -> io::Result<bool> {
 /// Whether nothing differs on so many drawn inputs for each walk, and half as many for the rest.
 pub fn sphere(drawn: u64) -> io::Result<bool> {
     compare(original::SPHERE, |number| if WALKS.contains(&number) { drawn } else { drawn / 2 })
+}
+
+/// Whether nothing differs on so many drawn inputs for each function of module 9.
+pub fn nine(drawn: u64) -> io::Result<bool> {
+    compare(original::NINE, |_| drawn)
 }
 
 fn compare(functions: &[Function], drawn: impl Fn(u8) -> u64) -> io::Result<bool> {

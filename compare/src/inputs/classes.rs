@@ -23,6 +23,8 @@ pub enum Draw {
     Vectors(Group),
     /// A radius, then the same.
     Led(Group),
+    /// Either of the two, and a last word of its own.
+    Ended(bool, Group, fn(&mut Random) -> u64),
     /// Numbers of a scene.
     Scene(Class, Layout),
     /// The same, some of them replaced.
@@ -44,6 +46,12 @@ impl Draw {
                 words[0] = scenes::radius(random).to_bits();
                 vectors::fill(group, random, &mut words[1..]);
             }
+            Draw::Ended(led, group, end) => {
+                let (last, rest) = words.split_last_mut().expect("a last word");
+                let draw = if led { Draw::Led(group) } else { Draw::Vectors(group) };
+                draw.fill(random, rest);
+                *last = end(random);
+            }
             Draw::Scene(class, layout) => fill(words, &layout(&class(random))),
             Draw::Spoilt(class, layout) => {
                 fill(words, &layout(&class(random)));
@@ -56,6 +64,15 @@ impl Draw {
     pub const fn led(self) -> Draw {
         match self {
             Draw::Vectors(group) => Draw::Led(group),
+            other => other,
+        }
+    }
+
+    /// The class with a last word of its own after its vectors.
+    pub const fn ended(self, end: fn(&mut Random) -> u64) -> Draw {
+        match self {
+            Draw::Vectors(group) => Draw::Ended(false, group, end),
+            Draw::Led(group) => Draw::Ended(true, group, end),
             other => other,
         }
     }

@@ -197,7 +197,7 @@ pub fn radius_and_triples(reach: u32) -> Vec<Vec<u64>> {
 }
 
 /// Radii that take turns ahead of vectors.
-fn led(inputs: Vec<Vec<u64>>) -> Vec<Vec<u64>> {
+pub fn led(inputs: Vec<Vec<u64>>) -> Vec<Vec<u64>> {
     let radii = [EARTH, 1.0, EARTH, 0.0, 1_737_400.0, -1.0, EARTH, INFINITY, 1.0, NAN, MAX, TINY];
     let radii = radii.map(f64::to_bits);
     let led =

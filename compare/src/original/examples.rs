@@ -140,6 +140,19 @@ const EXAMPLES: &[(u8, &[Part])] = &[
         0x7a,
         &[EARTH, SHIP[0], SHIP[1], Knots(700.0), OFF[1], OFF[2], SEEN[0], SEEN[1], Knots(600.0)],
     ),
+    (0x80, &[At(0.0, -10.0), At(0.0, 10.0), At(1.0, 0.0)]),
+    (0x81, &[SIDE[1], SIDE[2]]),
+    (0x82, &[EARTH, OFF[0], OFF[1], OFF[2]]),
+    (0x83, &[EARTH, Number(PI)]),
+    (0x84, &[EARTH, Number(PI * 6_371_000.8)]),
+    (0x85, &[EARTH, At(90.0, 0.0), Degrees(180.0), Number(6_371_000.8 * PI / 4.0)]),
+    (0x86, &[At(0.0, 0.0), At(0.0, 1.0)]),
+    (0x87, &[At(0.0, 0.0), At(0.0, 1.0), Number(PI / 4.0)]),
+    (0x89, &[At(10.0, 0.0), At(0.0, -10.0), At(0.0, 10.0)]),
+    (0x8a, &[At(0.0, 0.0), At(45.0, 0.0), At(60.0, -10.0)]),
+    (0x8b, &[EARTH, SHIP[0], SHIP[1], SHIP[2], Seconds(11_396)]),
+    (0x8b, &[EARTH, SEEN[0], SEEN[1], Knots(600.0), Seconds(5_993)]),
+    (0x8d, &[At(10.0, 10.0), At(10.0, -10.0), At(-10.0, -10.0), At(-10.0, 10.0)]),
 ];
 
 /// The words of every example of the function with this number.

@@ -3,7 +3,7 @@
 use crate::answer::Answer;
 use crate::inputs::scenes::Ship;
 use crate::inputs::vectors::Vector;
-use crate::jord::spherical::{GreatCircle, Side, Sphere};
+use crate::jord::spherical::{GreatCircle, MinorArc, Side, Sphere};
 use crate::jord::{Angle, LatLong, Length, Mat33, NVector, Speed, Vec3, Vehicle};
 use std::time::Duration;
 
@@ -66,7 +66,8 @@ answers! {
     Vec3: v => components(v);
     NVector: position => components(position.as_vec3());
     GreatCircle: circle => components(circle.normal());
-    Mat33: m => rows(m);
+    MinorArc: arc => nine([arc.start().as_vec3(), arc.end().as_vec3(), arc.normal()]);
+    Mat33: m => nine([m.row0(), m.row1(), m.row2()]);
     Vehicle: vehicle => state(vehicle);
     Side: side => Answer::Byte(number(side));
 }
@@ -84,10 +85,10 @@ pub fn components(v: Vec3) -> [f64; 3] {
     [v.x(), v.y(), v.z()]
 }
 
-fn rows(m: Mat33) -> [f64; 9] {
+/// Three vectors, one after another.
+fn nine(vectors: [Vec3; 3]) -> [f64; 9] {
     let mut floats = [0.0; 9];
-    let rows = [m.row0(), m.row1(), m.row2()].map(components);
-    floats.copy_from_slice(rows.as_flattened());
+    floats.copy_from_slice(vectors.map(components).as_flattened());
     floats
 }
 

@@ -3,6 +3,7 @@ use crate::durations;
 use crate::fields;
 use crate::floats;
 use crate::great_circles;
+use crate::lent;
 use crate::matrices;
 use crate::means;
 use crate::numbers;
@@ -10,6 +11,7 @@ use crate::positions;
 use crate::sphere;
 use crate::units;
 use crate::vectors;
+use crate::ways;
 
 // A call has this many arguments at most, and then this many bytes.
 pub const ARGUMENTS: usize = 18;
@@ -19,8 +21,10 @@ pub const LONGEST: usize = 2 + 17 * ARGUMENTS;
 // More arguments than a line has room for: how many a number takes that is no function's.
 const UNKNOWN: usize = 99;
 
-// The mean takes as many coordinates as there are.
+// The means take as many coordinates as there are.
 const MEAN: u64 = 0x79;
+
+const LENT: u64 = 0x8d;
 
 // How many arguments the function of a number takes.
 fn arity(f: u64) -> usize {
@@ -34,13 +38,14 @@ fn arity(f: u64) -> usize {
         0x50..=0x56 | 0x66 => positions::arity(f),
         0x60..=0x65 => great_circles::arity(f),
         0x70..=0x78 | 0x7a => sphere::arity(f),
+        0x80..=0x8c => ways::arity(f),
         _ => UNKNOWN,
     }
 }
 
 // Whether the function of a number takes n arguments.
 fn takes(f: u64, n: usize) -> bool {
-    if f == MEAN {
+    if (f == MEAN) | (f == LENT) {
         return n <= ARGUMENTS;
     }
     n == arity(f)
@@ -58,7 +63,9 @@ fn dispatch(f: u64, args: &[u64], n: usize, page: &mut [u8], at: usize) -> usize
         0x50..=0x56 | 0x66 => positions::answer(f, args, page, at),
         0x60..=0x65 => great_circles::answer(f, args, page, at),
         0x70..=0x78 | 0x7a => sphere::answer(f, args, page, at),
+        0x80..=0x8c => ways::answer(f, args, page, at),
         MEAN => means::answer(args, n, page, at),
+        LENT => lent::answer(args, n, page, at),
         _ => fields::put_refusal(page, at),
     }
 }

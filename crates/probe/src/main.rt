@@ -4,6 +4,7 @@ mod durations;
 mod fields;
 mod floats;
 mod great_circles;
+mod lent;
 mod lines;
 mod matrices;
 mod means;
@@ -13,6 +14,7 @@ mod positions;
 mod sphere;
 mod units;
 mod vectors;
+mod ways;
 
 use lines::Line;
 use lines::Turned;

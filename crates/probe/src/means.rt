@@ -34,7 +34,7 @@ fn coordinates(args: &[u64]) -> [f64; ARGUMENTS] {
 }
 
 // 00 and the position, or the number of the reason why there is none.
-fn put_mean(page: &mut [u8], at: usize, m: Mean) -> usize {
+pub fn put_mean(page: &mut [u8], at: usize, m: Mean) -> usize {
     let number = m.number();
     match m {
         Mean::Position(p) => {

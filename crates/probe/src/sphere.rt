@@ -51,7 +51,7 @@ pub fn answer(f: u64, args: &[u64], page: &mut [u8], at: usize) -> usize {
 }
 
 // The sphere whose radius in metres is the first argument.
-fn sphere_of(args: &[u64]) -> Sphere {
+pub fn sphere_of(args: &[u64]) -> Sphere {
     Sphere::new(Length::from_metres(float_at(args, 0)))
 }
 

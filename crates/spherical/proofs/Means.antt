@@ -1,4 +1,4 @@
--- The mean of coordinates by their number and by the question 17. Assumes nothing.
+-- The mean of a list, and of coordinates, by their number and by the question 17. Assumes nothing.
 use mathlib.Core.Path.{_≡_, ap, _∙_}
 use mathlib.Core.Bool.{true, false, false≢true}
 use mathlib.Core.List.{List, [], _∷_}
@@ -12,14 +12,14 @@ use Rattle.spherical.specs.Mean.{containsAntipodal, vec3Mean, meanOf, po
 use Rattle.spherical.specs.declared.mean.Mean.the-variants.{Position, Empty, Antipodal}
 use Rattle.spherical.proofs.Positions.{positions-on, positions-few, positions-out}
 
-antipodal-of : (ps : List NVector) → containsAntipodal ps ≡ true → meanOf ps ≡ Antipodal
+pub antipodal-of : (ps : List NVector) → containsAntipodal ps ≡ true → meanOf ps ≡ Antipodal
 antipodal-of [] e = absurd (false≢true e)
 antipodal-of (p ∷ l) e = rw e
 
-one-of : (ps : List NVector) (p : NVector) → ps ≡ p ∷ [] → containsAntipodal ps ≡ false → meanOf ps ≡ Position p
+pub one-of : (ps : List NVector) (p : NVector) → ps ≡ p ∷ [] → containsAntipodal ps ≡ false → meanOf ps ≡ Position p
 one-of ps p s e = rw s (rw (rw s at e))
 
-more-of : (ps : List NVector) (p q : NVector) (l : List NVector) → ps ≡ p ∷ q ∷ l → containsAntipodal ps ≡ false → meanOf ps ≡ Position (nvectorNew (vec3Mean ps))
+pub more-of : (ps : List NVector) (p q : NVector) (l : List NVector) → ps ≡ p ∷ q ∷ l → containsAntipodal ps ≡ false → meanOf ps ≡ Position (nvectorNew (vec3Mean ps))
 more-of ps p q l s e = rw s (rw (rw s at e))
 
 module _ (cs : List Float) where

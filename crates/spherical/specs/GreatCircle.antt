@@ -1,9 +1,10 @@
 -- great_circle.rs: great circles by the normal of their plane. Definitions only.
+use mathlib.Core.Bool.{cond}
 use lib.Ieee.{Float}
 use Rattle.float.specs.Operators.{_⊘_}
 use Rattle.float.specs.Trig.{sin, cos}
 use Rattle.jord.specs.Vec3 as vec3
-use Rattle.jord.specs.Positions.{asVec3}
+use Rattle.jord.specs.Positions.{nvectorNew, asVec3}
 use Rattle.jord.specs.declared.vec3.Vec3.{Vec3}
 use Rattle.jord.specs.declared.angle.Angle.{Angle}
 use Rattle.jord.specs.declared.positions.NVector.{NVector}
@@ -33,3 +34,11 @@ fromHeading p bearing = headed (asVec3 p) (easting (asVec3 p)) (bearing .radians
 -- self.normal
 abbrev pub normal : GreatCircle → Vec3
 normal g = g .normal
+
+-- if n2 == Vec3::ZERO { NVector::new(p.as_vec3().orthogonal()) } else { NVector::new(n1.orthogonal_to(n2)) }
+abbrev projectedBy : Vec3 → Vec3 → Vec3 → NVector
+projectedBy v n1 n2 = cond (vec3.eq n2 vec3.ZERO) (nvectorNew (vec3.orthogonal v)) (nvectorNew (vec3.orthogonalTo n1 n2))
+
+-- with n1 = self.normal, n2 = p.as_vec3().stable_cross_prod_unit(n1)
+unfoldable pub projection : GreatCircle → NVector → NVector
+projection g p = projectedBy (asVec3 p) (g .normal) (vec3.stableCrossProdUnit (asVec3 p) (g .normal))

@@ -1,9 +1,13 @@
 pub mod Base
 pub mod GreatCircle
+pub mod MinorArc
 pub mod Course
 pub mod Walk
 pub mod Outcome
 pub mod Mean
+pub mod Lent
+pub mod Interpolated
 pub mod Sphere
 pub mod Counts
 pub mod Table
+pub mod Together

@@ -1,4 +1,4 @@
--- `mean_position` of sphere.rs, over a list of positions, and the positions that coordinates stand for. Definitions only.
+-- `mean_position` and `triangle_mean_position` of sphere.rs, over lists of positions, and the positions that coordinates stand for. Definitions only.
 use Prim.Native.Nat.{ℕ, _+_, _*_}
 use mathlib.Core.Bool.{Bool, false, cond, _||_}
 use mathlib.Core.List.{List, [], _∷_}
@@ -7,7 +7,8 @@ use lib.Ieee as Ieee
 use lib.Ieee.{Float, nan}
 use Rattle.float.specs.Operators.{_⊕_}
 use Rattle.jord.specs.Vec3 as vec3
-use Rattle.jord.specs.Positions.{nvectorNew, asVec3, antipode, eq}
+use Rattle.jord.specs.Positions.{nvectorNew, asVec3, antipode, isAntipodeOf, eq}
+use Rattle.jord.specs.Zero.{NoMinusZero, Held}
 use Rattle.jord.specs.declared.vec3.Vec3.{Vec3}
 use Rattle.jord.specs.declared.positions.NVector.{NVector}
 use Rattle.spherical.specs.declared.mean.Mean.{Mean}
@@ -50,7 +51,7 @@ abbrev pub sum : List NVector → Vec3
 sum ps = fold plus vec3.ZERO ps
 
 -- Vec3::new_unit(x, y, z)
-abbrev along : Vec3 → Vec3
+abbrev pub along : Vec3 → Vec3
 along s = vec3.newUnit (s .x) (s .y) (s .z)
 
 -- `Vec3::mean`
@@ -66,6 +67,16 @@ meanFrom p (q ∷ l) = nvectorNew (vec3Mean (p ∷ q ∷ l))
 abbrev pub meanOf : List NVector → Mean
 meanOf [] = Empty
 meanOf (p ∷ l) = cond (containsAntipodal (p ∷ l)) Antipodal (Position (meanFrom p l))
+
+-- p1.is_antipode_of(p2) || p1.is_antipode_of(p3) || p2.is_antipode_of(p3)
+abbrev pub antipodalPair : NVector → NVector → NVector → Bool
+antipodalPair p1 p2 p3 = isAntipodeOf p1 p2 || isAntipodeOf p1 p3 || isAntipodeOf p2 p3
+
+-- "for `triangle_mean_position`: is no pair of its three antipodal by `is_antipode_of`? 17"
+unfoldable pub triangleMeanPosition : NVector → NVector → NVector → Mean
+unfolding vec3.newUnit Ieee.add Ieee.eq
+triangleMeanPosition p1 p2 p3 =
+    cond (antipodalPair p1 p2 p3) Antipodal (Position (nvectorNew (vec3Mean (p1 ∷ p2 ∷ p3 ∷ []))))
 
 -- ---- coordinates
 
@@ -84,3 +95,19 @@ positionAt cs i = nvectorNew (vec3.new (getD cs (3 * i) nan) (getD cs (3 * i + 1
 unfoldable pub meanPosition : List Float → Mean
 unfolding vec3.newUnit Ieee.add Ieee.eq Ieee.neg
 meanPosition cs = meanOf (positions cs)
+
+-- ---- the coordinates of positions
+
+-- three to a position, in the order of the list
+abbrev pub coordinates : List NVector → List Float
+coordinates [] = []
+coordinates (p ∷ ps) = asVec3 p .x ∷ asVec3 p .y ∷ asVec3 p .z ∷ coordinates ps
+
+-- each part is a value that f64 holds and none is -0, as of every position that the port makes
+pub record Kept (p : NVector) : Type 0 where
+  pub held : Held (asVec3 p)
+  pub no-minus-zero : NoMinusZero (asVec3 p)
+
+abbrev pub AllKept : List NVector → Type 0
+AllKept [] = Unit {0}
+AllKept (p ∷ ps) = Kept p × AllKept ps

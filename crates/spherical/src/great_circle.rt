@@ -42,4 +42,16 @@ impl GreatCircle {
     {
         self.normal
     }
+
+    // The position of the great circle that is nearest to p; an arbitrary one where p is at right angles to it.
+    pub fn projection(self, p: NVector) -> NVector
+        ensures { λ r. ⌜ r ≡ spec.projection self p ⌝ }
+    {
+        let v = p.as_vec3();
+        let n2 = v.stable_cross_prod_unit(self.normal);
+        if n2.eq(Vec3::ZERO) {
+            return NVector::new(v.orthogonal());
+        }
+        NVector::new(self.normal.orthogonal_to(n2))
+    }
 }

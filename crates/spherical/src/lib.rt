@@ -2,7 +2,10 @@
 pub mod base;
 pub mod course;
 pub mod great_circle;
+pub mod interpolated;
+pub mod lent;
 pub mod mean;
+pub mod minor_arc;
 pub mod outcome;
 pub mod sphere;
 pub mod walk;

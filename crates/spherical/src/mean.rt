@@ -1,4 +1,4 @@
-// The mean of positions that are handed over as coordinates, three to a position. One or two left over at the end count for nothing.
+// Means of positions. A list is handed over as coordinates, three to a position; one or two left over at the end count for nothing.
 ghost use mathlib.Core.Path.{_≡_};
 ghost use Prim.Native.Nat.{_+_, _*_, _<_};
 ghost use lib.ListN.{length};
@@ -11,7 +11,7 @@ pub enum Mean {
     Position(NVector),
     // There is no entry.
     Empty,
-    // An entry is the negation of an entry, or of itself.
+    // An entry is the negation of an entry, or of itself; of three positions, two are antipodes.
     Antipodal,
 }
 
@@ -43,6 +43,17 @@ pub fn mean_position(cs: &[f64]) -> Mean
         return Mean::Position(position_at(cs, 0));
     }
     Mean::Position(NVector::new(vec3_mean(cs)))
+}
+
+// The unit vector along the sum of three positions, no two of them antipodes.
+pub fn triangle_mean_position(p1: NVector, p2: NVector, p3: NVector) -> Mean
+    ensures { λ r. ⌜ r ≡ spec.triangleMeanPosition p1 p2 p3 ⌝ }
+{
+    if p1.is_antipode_of(p2) | p1.is_antipode_of(p3) | p2.is_antipode_of(p3) {
+        return Mean::Antipodal;
+    }
+    let s = plus(plus(plus(Vec3::ZERO, p1), p2), p3);
+    Mean::Position(NVector::new(Vec3::new_unit(s.x, s.y, s.z)))
 }
 
 // Whether an entry equals the antipode of an entry, itself included.
@@ -98,7 +109,7 @@ fn sum(cs: &[f64]) -> Vec3
 }
 
 // s with the parts of p added to its own.
-fn plus(s: Vec3, p: NVector) -> Vec3
+pub fn plus(s: Vec3, p: NVector) -> Vec3
     ensures { λ r. ⌜ r ≡ spec.plus s p ⌝ }
 {
     let v = p.as_vec3();

@@ -4,6 +4,8 @@ ghost use Rattle.spherical.specs.Sphere as spec;
 use crate::Side;
 use crate::base;
 use crate::great_circle::GreatCircle;
+use crate::interpolated::Interpolated;
+use crate::minor_arc::MinorArc;
 use crate::outcome::Outcome;
 use crate::walk::Chase;
 use crate::walk::Cpa;
@@ -12,7 +14,10 @@ use crate::walk::int_min_nr_rec;
 use crate::walk::int_spd_nr_rec;
 use crate::walk::newton_raphson;
 use float::bits::magnitude;
+use float::remainder::rem;
 use float::trig::PI;
+use float::trig::cos;
+use float::trig::sin;
 use jord::angle::Angle;
 use jord::length::Length;
 use jord::positions::NVector;
@@ -40,6 +45,20 @@ impl Sphere {
         },
     };
 
+    // EARTH, with a contract that says which sphere that is.
+    pub fn earth() -> Self
+        ensures { λ r. ⌜ r ≡ spec.EARTH ⌝ }
+    {
+        Sphere::EARTH
+    }
+
+    // MOON, with a contract that says which sphere that is.
+    pub fn moon() -> Self
+        ensures { λ r. ⌜ r ≡ spec.MOON ⌝ }
+    {
+        Sphere::MOON
+    }
+
     // The sphere of a radius.
     pub fn new(radius: Length) -> Self
         ensures { λ r. ⌜ r ≡ spec.new radius ⌝ }
@@ -54,11 +73,33 @@ impl Sphere {
         self.radius
     }
 
+    // How far along a minor arc the position nearest to p is, from its start; negative before it.
+    pub fn along_track_distance(self, p: NVector, ma: MinorArc) -> Length
+        ensures { λ r. ⌜ r ≡ spec.alongTrackDistance self p ma ⌝ }
+    {
+        let across = ma.normal.cross_prod(p.as_vec3());
+        let along = across.cross_prod(ma.normal);
+        let angle = base::angle_radians_about(ma.start.as_vec3(), along, ma.normal);
+        self.radius.mul(angle)
+    }
+
     // The angle between two positions.
     pub fn angle(p1: NVector, p2: NVector) -> Angle
         ensures { λ r. ⌜ r ≡ spec.angle p1 p2 ⌝ }
     {
         Angle::from_radians(base::angle_radians_between(p1.as_vec3(), p2.as_vec3()))
+    }
+
+    // The length of the arc of an angle, less whole half circles; of half a circle itself, twice the radius.
+    pub fn angle_to_distance(self, angle: Angle) -> Length
+        ensures { λ r. ⌜ r ≡ spec.angleToDistance self angle ⌝ }
+    {
+        let abs_angle = angle.abs();
+        if abs_angle.eq(Angle::HALF_CIRCLE) {
+            return self.radius.mul(2.0);
+        }
+        self.radius
+            .mul_angle(abs_angle.normalised_to(Angle::HALF_CIRCLE))
     }
 
     // The distance of a position from a great circle: negative to its left, positive to its right.
@@ -69,6 +110,19 @@ impl Sphere {
         self.radius.mul(angle - (PI / 2.0))
     }
 
+    // Where the way of a distance from p0 on a bearing there ends; p0 itself for a distance of zero.
+    pub fn destination_position(self, p0: NVector, bearing: Angle, distance: Length) -> NVector
+        ensures { λ r. ⌜ r ≡ spec.destinationPosition self p0 bearing distance ⌝ }
+    {
+        if distance.metres == 0.0 {
+            return p0;
+        }
+        let v = p0.as_vec3();
+        let dir = heading(v, bearing);
+        let ta = distance.metres / self.radius.metres;
+        NVector::new(towards(v, dir, ta).unit())
+    }
+
     // The distance along the great circle between two positions.
     pub fn distance(self, p1: NVector, p2: NVector) -> Length
         ensures { λ r. ⌜ r ≡ spec.distance self p1 p2 ⌝ }
@@ -76,11 +130,38 @@ impl Sphere {
         self.radius.mul_angle(Sphere::angle(p1, p2))
     }
 
+    // The angle of an arc of a length, less whole half circles; of half a circle itself, HALF_CIRCLE.
+    pub fn distance_to_angle(self, distance: Length) -> Angle
+        ensures { λ r. ⌜ r ≡ spec.distanceToAngle self distance ⌝ }
+    {
+        let abs_dist = distance.abs();
+        let max_distance = self.radius.mul(PI);
+        if abs_dist.metres == max_distance.metres {
+            return Angle::HALF_CIRCLE;
+        }
+        if abs_dist.metres > max_distance.metres {
+            let d = rem(abs_dist.metres, max_distance.metres);
+            return Angle::from_radians(d / self.radius.metres);
+        }
+        Angle::from_radians(abs_dist.metres / self.radius.metres)
+    }
+
     // Whether two positions define one great circle: they are neither equal nor antipodes.
     pub fn is_great_circle(p1: NVector, p2: NVector) -> bool
         ensures { λ r. ⌜ r ≡ spec.isGreatCircle p1 p2 ⌝ }
     {
         !p1.eq(p2) & !p1.is_antipode_of(p2)
+    }
+
+    // The compass angle at p2 of the way from p1; 0 where they define no great circle.
+    pub fn final_bearing(p1: NVector, p2: NVector) -> Angle
+        ensures { λ r. ⌜ r ≡ spec.finalBearing p1 p2 ⌝ }
+    {
+        if Sphere::is_great_circle(p1, p2) {
+            Angle::from_radians(final_bearing_radians(p1, p2)).normalised()
+        } else {
+            Angle::ZERO
+        }
     }
 
     // The compass angle at p1 towards p2; 0 where they define no great circle.
@@ -94,11 +175,55 @@ impl Sphere {
         }
     }
 
+    // The position at an angle from p1 on the great circle from p1 through p2.
+    pub fn position_on_great_circle(p1: NVector, p2: NVector, a: Angle) -> NVector
+        ensures { λ r. ⌜ r ≡ spec.positionOnGreatCircle p1 p2 a ⌝ }
+    {
+        let v = p1.as_vec3();
+        let dir = v.orthogonal_to(p2.as_vec3()).cross_prod_unit(v);
+        NVector::new(towards(v, dir, a.radians).unit())
+    }
+
+    // The position at a fraction of the way from p1 to p2.
+    pub fn interpolated_position(p1: NVector, p2: NVector, f: f64) -> Interpolated
+        ensures { λ r. ⌜ r ≡ spec.interpolatedPosition p1 p2 f ⌝ }
+    {
+        if !((0.0 <= f) & (f <= 1.0)) {
+            return Interpolated::Outside;
+        }
+        if f == 0.0 {
+            return Interpolated::Position(p1);
+        }
+        if f == 1.0 {
+            return Interpolated::Position(p2);
+        }
+        let a = Sphere::angle(p1, p2).mul(f);
+        Interpolated::Position(Sphere::position_on_great_circle(p1, p2, a))
+    }
+
     // On which side of the great circle from p1 to p2 the position p0 is.
     pub fn side(p0: NVector, p1: NVector, p2: NVector) -> Side
         ensures { λ r. ⌜ r ≡ spec.side p0 p1 p2 ⌝ }
     {
         base::side(p0.as_vec3(), p1.as_vec3(), p2.as_vec3())
+    }
+
+    // The angle turned at b on the way from a to c: positive to the left, negative to the right.
+    pub fn turn(a: NVector, b: NVector, c: NVector) -> Angle
+        ensures { λ r. ⌜ r ≡ spec.turn a b c ⌝ }
+    {
+        let v = b.as_vec3();
+        let n1 = a.as_vec3().orthogonal_to(v);
+        let n2 = v.orthogonal_to(c.as_vec3());
+        Angle::from_radians(base::angle_radians_about(n1, n2, v))
+    }
+
+    // Where a vehicle that keeps course and speed is after a duration.
+    pub fn position_after(self, vehicle: Vehicle, nanoseconds: u64) -> NVector
+        ensures { λ r. ⌜ r ≡ spec.positionAfter self vehicle nanoseconds ⌝ }
+    {
+        let distance = vehicle.speed.mul_duration(nanoseconds);
+        self.destination_position(vehicle.position, vehicle.bearing, distance)
     }
 
     // The time until two vehicles that keep course and speed are closest.
@@ -126,6 +251,13 @@ impl Sphere {
     }
 }
 
+// The angle at v2 from north to the way that goes on from v1, clockwise.
+fn final_bearing_radians(v1: NVector, v2: NVector) -> f64
+    ensures { λ r. ⌜ r ≡ spec.finalBearingRadians v1 v2 ⌝ }
+{
+    initial_bearing_radians(v2, v1) + PI
+}
+
 // The angle at v1 from north to v2, clockwise.
 fn initial_bearing_radians(v1: NVector, v2: NVector) -> f64
     ensures { λ r. ⌜ r ≡ spec.initialBearingRadians v1 v2 ⌝ }
@@ -144,4 +276,20 @@ fn westing(v: Vec3) -> Vec3
         return Vec3::NEG_UNIT_Y;
     }
     Vec3::new(v.y, -v.x, 0.0)
+}
+
+// The unit vector along which a bearing at v points.
+fn heading(v: Vec3, bearing: Angle) -> Vec3
+    ensures { λ r. ⌜ r ≡ spec.heading v bearing ⌝ }
+{
+    let ed = base::easting(v);
+    let nd = v.cross_prod(ed);
+    towards(nd, ed, bearing.radians)
+}
+
+// v turned by an angle towards w.
+fn towards(v: Vec3, w: Vec3, a: f64) -> Vec3
+    ensures { λ r. ⌜ r ≡ spec.towards v w a ⌝ }
+{
+    v.mul(cos(a)).add(w.mul(sin(a)))
 }

@@ -1,0 +1,11 @@
+-- `turn` meets its contract.
+use Rattle.spherical.specs.Sphere.{turn}
+use Rattle.spherical.proofs.sphere.Sphere.turn.Statement.{statement}
+use Rattle.spherical.proofs.sphere.Sphere.turn.Tie as tie
+
+returns : tie.Need-returns
+unfolding turn
+returns c = rw (c .from-radians .ensures, c .before .angle-radians-about .ensures, c .before .before .orthogonal-to2 .ensures, c .before .before .before .as-vec33 .ensures, c .before .before .before .before .orthogonal-to .ensures, c .before .before .before .before .before .as-vec32 .ensures, c .before .before .before .before .before .before .as-vec3 .ensures)
+
+pub turn-spec : {M : Type 1} → statement M
+turn-spec = tie.close (tie.spec (λ c κs. tt) (λ c κs. tt) (λ c κs. tt) (λ c κs. tt) (λ c κs. tt) (λ c κs. tt) (λ c κs. tt) returns)
