@@ -15,5 +15,6 @@ pub mod Demand3
 pub mod Played
 pub mod Loops
 pub mod Picks
+pub mod Parts
 pub mod Means
 pub mod Glances

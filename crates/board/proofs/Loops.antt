@@ -1,16 +1,12 @@
--- A loop over the first n of an array that searches or folds them, a step at a time.
+-- A loop over the first n of a list that searches or folds them, a step at a time.
 use Prim.Native.Nat.{ℕ, _+_, _≤_, _<_}
 use native.Mathlib.Numerals.{add-one}
-use mathlib.Core.Bool.{Bool, true, false}
+use mathlib.Core.Bool.{Bool, _||_, or-assoc, or-false}
 use mathlib.Core.Path.{_≡_, sym, ap, _∙_}
-use mathlib.Core.List.{List, [], _∷_, map}
+use mathlib.Core.List.{List, [], _∷_}
 use lib.ListN.{length, take, drop, getD, drop-of-length-le}
 use lib.Seq.{drop-cons, getD-take, length-take-le}
 use Rattle.spherical.specs.Mean.{any, fold}
-
--- what f makes of those from the i-th on
-abbrev pub from : {A B : Type 0} → (A → B) → ℕ → List A → ℕ → List B
-from f n ts i = map f (drop i (take n ts))
 
 module _ {A : Type 0} (n : ℕ) (ts : List A) (fit : n ≤ length ts) (i : ℕ) where
   pub rest-on : (d : A) → i < n → drop i (take n ts) ≡ getD ts i d ∷ drop (i + 1) (take n ts)
@@ -21,28 +17,21 @@ module _ {A : Type 0} (n : ℕ) (ts : List A) (fit : n ≤ length ts) (i : ℕ) 
   pub rest-out : n ≤ i → drop i (take n ts) ≡ []
   rest-out h = drop-of-length-le (take n ts) {i = i} (rw (length-take-le n ts) h)
 
-module _ {A B : Type 0} (f : A → B) (n : ℕ) (ts : List A) (fit : n ≤ length ts) (i : ℕ) where
-  pub from-on : (d : A) → i < n → from f n ts i ≡ f (getD ts i d) ∷ from f n ts (i + 1)
-  from-on d h = ap (map f) (rest-on n ts fit i d h)
+  -- a search for an element of which p holds: b says whether one of those passed is such, t whether v, the next, or one of them is
+  module _ (p : A → Bool) (b : Bool) (e : any p (take n ts) ≡ (b || any p (drop i (take n ts)))) where
+    pub any-on : (d v : A) → i < n → v ≡ getD ts i d → (t q : Bool) → t ≡ (b || p v) → t ≡ q → any p (take n ts) ≡ (q || any p (drop (i + 1) (take n ts)))
+    any-on d v h f t q g k =
+        e ∙ ap (λ (l : List A). b || any p l) (rest-on d h)
+        ∙ sym (or-assoc b (p (getD ts i d)) (any p (drop (i + 1) (take n ts))))
+        ∙ ap (λ (c : Bool). c || any p (drop (i + 1) (take n ts))) (ap (λ (v : A). b || p v) (sym f) ∙ sym g ∙ k)
 
-  pub from-out : n ≤ i → from f n ts i ≡ []
-  from-out h = ap (map f) (rest-out n ts fit i h)
+    pub any-out : n ≤ i → b ≡ any p (take n ts)
+    any-out h = sym (e ∙ ap (λ (l : List A). b || any p l) (rest-out h) ∙ or-false b)
 
-  -- a search for an element of which p holds
-  module _ (p : B → Bool) (e : any p (from f n ts 0) ≡ any p (from f n ts i)) where
-    pub any-hit : (d : A) → i < n → p (f (getD ts i d)) ≡ true → true ≡ any p (from f n ts 0)
-    any-hit d h t = sym (e ∙ ap (any p) (from-on d h) ∙ rw t)
+  -- a fold of them: r is what it comes to with v, the next
+  module _ {C : Type 0} (g : C → A → C) (z s : C) (e : fold g z (take n ts) ≡ fold g s (drop i (take n ts))) where
+    pub fold-on : (d v : A) → i < n → v ≡ getD ts i d → (r : C) → r ≡ g s v → fold g z (take n ts) ≡ fold g r (drop (i + 1) (take n ts))
+    fold-on d v h f r t = e ∙ ap (fold g s) (rest-on d h) ∙ ap (λ (c : C). fold g c (drop (i + 1) (take n ts))) (ap (g s) (sym f) ∙ sym t)
 
-    pub any-on : (d : A) → i < n → p (f (getD ts i d)) ≡ false → any p (from f n ts 0) ≡ any p (from f n ts (i + 1))
-    any-on d h t = e ∙ ap (any p) (from-on d h) ∙ rw t
-
-    pub any-out : n ≤ i → false ≡ any p (from f n ts 0)
-    any-out h = sym (e ∙ ap (any p) (from-out h))
-
-  -- a fold of them
-  module _ {C : Type 0} (g : C → B → C) (z s : C) (e : fold g z (from f n ts 0) ≡ fold g s (from f n ts i)) where
-    pub fold-on : (d : A) → i < n → fold g z (from f n ts 0) ≡ fold g (g s (f (getD ts i d))) (from f n ts (i + 1))
-    fold-on d h = e ∙ ap (fold g s) (from-on d h)
-
-    pub fold-out : n ≤ i → s ≡ fold g z (from f n ts 0)
-    fold-out h = sym (e ∙ ap (fold g s) (from-out h))
+    pub fold-out : n ≤ i → s ≡ fold g z (take n ts)
+    fold-out h = sym (e ∙ ap (fold g s) (rest-out h))

@@ -1,10 +1,15 @@
 -- What is asked of a plain board: its mean position, and a pick. Definitions only.
 use Prim.Native.Nat.{ℕ, _≤_}
 use mathlib.Core.Bool.{cond}
-use mathlib.Core.List.{List, map, List·Memᴰ}
+use mathlib.Core.List.{List, [], _∷_, map, List·Memᴰ}
 use mathlib.Core.Option.{Option, some, none}
 use mathlib.Core.Path.{_≡_}
 use lib.Dec.{ltb}
+use lib.Ieee.{Float, nan}
+use lib.ListN.{getD}
+use Rattle.jord.specs.Vec3.{parts}
+use Rattle.jord.specs.Positions.{nvectorNew, asVec3}
+use Rattle.jord.specs.declared.vec3.Vec3.{Vec3}
 use Rattle.jord.specs.declared.positions.NVector.{NVector}
 use Rattle.spherical.specs.Mean.{meanOf}
 use Rattle.spherical.specs.declared.mean.Mean.{Mean}
@@ -16,6 +21,7 @@ use Rattle.board.specs.declared.targets.Target.{Target}
 use Rattle.board.specs.declared.call.Refusal.the-variants.{NoMeeting}
 use Rattle.board.specs.declared.asking.Choice.{Choice}
 use Rattle.board.specs.declared.asking.Choice.the-variants as choice
+use Rattle.board.specs.declared.asking.Parts.{Parts}
 use Rattle.board.specs.declared.asking.Best.{Best}
 use Rattle.board.specs.declared.asking.Best.the-variants.{Missing, At}
 use Rattle.board.specs.Board.{Plain}
@@ -28,6 +34,34 @@ positionOf t = t .held .report .position
 -- "mean position of all targets in rising identity"
 unfoldable pub mean : Plain → Mean
 mean b = meanOf (map positionOf (b .targets))
+
+-- ---- the code's way to a mean: the parts of the positions in three lists
+
+abbrev pub vectorOf : Target → Vec3
+vectorOf t = asVec3 (positionOf t)
+
+abbrev pub xOf : Target → Float
+xOf t = vectorOf t .x
+
+abbrev pub yOf : Target → Float
+yOf t = vectorOf t .y
+
+abbrev pub zOf : Target → Float
+zOf t = vectorOf t .z
+
+abbrev pub partsOf : List Target → Parts
+partsOf ts = record { xs = map xOf ts; ys = map yOf ts; zs = map zOf ts }
+
+-- the positions of such parts, the numbers as they are
+abbrev pub positions : List Float → List Float → List Float → List NVector
+positions [] ys zs = []
+positions (x ∷ xs) [] zs = []
+positions (x ∷ xs) (y ∷ ys) [] = []
+positions (x ∷ xs) (y ∷ ys) (z ∷ zs) = nvectorNew (parts x y z) ∷ positions xs ys zs
+
+-- the i-th of them, where there are as many
+abbrev pub positionAt : List Float → List Float → List Float → ℕ → NVector
+positionAt xs ys zs i = nvectorNew (parts (getD xs i nan) (getD ys i nan) (getD zs i nan))
 
 -- ---- pick
 

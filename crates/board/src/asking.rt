@@ -1,8 +1,8 @@
 // What is asked of a board: nothing changes.
 ghost use mathlib.Core.Path.{_≡_};
-ghost use mathlib.Core.List.{map};
-ghost use Prim.Native.Nat.{_≤_};
-ghost use lib.ListN.{take};
+ghost use Prim.Native.Nat.{_≤_, _<_};
+ghost use lib.Ieee as Ieee;
+ghost use lib.ListN.{length, take};
 ghost use Rattle.spherical.specs.Mean as means;
 ghost use Rattle.board.specs.Asking as spec;
 ghost use Rattle.board.specs.Code.{plain};
@@ -14,6 +14,7 @@ use crate::targets::least;
 use jord::positions::NVector;
 use jord::vec3::Vec3;
 use spherical::mean::Mean;
+use spherical::mean::plus;
 use spherical::outcome::Outcome;
 
 // A target whose meeting time is least, or why there is none.
@@ -26,6 +27,13 @@ pub enum Choice {
 enum Best {
     Missing,
     At { identity: u16, time: u64 },
+}
+
+// The parts of 64 positions.
+struct Parts {
+    xs: [f64; 64],
+    ys: [f64; 64],
+    zs: [f64; 64],
 }
 
 // The total of steps.
@@ -41,44 +49,77 @@ pub fn mean(board: Board) -> Mean
 {
     let targets = board.targets;
     let entries = targets.entries;
-    mean_of(entries, least(targets.count))
+    mean_of(parts_of(entries), least(targets.count))
 }
 
-// The mean position of the first n targets.
-fn mean_of(entries: [Target; 64], n: usize) -> Mean
-    requires { ⌜ n ≤ 64 ⌝ }
-    ensures { λ r. ⌜ r ≡ means.meanOf (map spec.positionOf (take n entries)) ⌝ }
+// The mean of the first n positions.
+fn mean_of(ps: Parts, n: usize) -> Mean
+    requires { ⌜ n ≤ length (spec.positions (ps .xs) (ps .ys) (ps .zs)) ⌝ }
+    ensures { λ r. ⌜ r ≡ means.meanOf (take n (spec.positions (ps .xs) (ps .ys) (ps .zs))) ⌝ }
 {
     if n == 0 {
         return Mean::Empty;
     }
-    if contains_antipodal(entries, n) {
+    let xs = ps.xs;
+    let ys = ps.ys;
+    let zs = ps.zs;
+    if contains_antipodal(&xs, &ys, &zs, n) {
         return Mean::Antipodal;
     }
     if n == 1 {
-        return Mean::Position(position_of(entries[0]));
+        return Mean::Position(position_at(&xs, &ys, &zs, 0));
     }
-    let s = sum(entries, n);
+    let s = sum(&xs, &ys, &zs, n);
     Mean::Position(NVector::new(Vec3::new_unit(s.x, s.y, s.z)))
 }
 
-// The position of a target.
-fn position_of(t: Target) -> NVector
-    ensures { λ r. ⌜ r ≡ spec.positionOf t ⌝ }
+// The parts of the positions of all entries, taken out once: numbers can be lent, an array of targets is copied at each call.
+fn parts_of(entries: [Target; 64]) -> Parts
+    ensures { λ r. ⌜ (r ≡ spec.partsOf entries) × (length entries ≡ 64) ⌝ }
+{
+    let mut xs = [0.0; 64];
+    let mut ys = [0.0; 64];
+    let mut zs = [0.0; 64];
+    let mut i = 0;
+    while i < 64 {
+        let v = vector_of(entries[i]);
+        xs[i] = v.x;
+        ys[i] = v.y;
+        zs[i] = v.z;
+        i += 1;
+    }
+    Parts { xs, ys, zs }
+}
+
+// The position of a target, as a vector.
+fn vector_of(t: Target) -> Vec3
+    ensures { λ r. ⌜ r ≡ spec.vectorOf t ⌝ }
 {
     let held = t.held;
     let report = held.report;
-    report.position
+    report.position.as_vec3()
+}
+
+// The i-th position, counted from 0.
+fn position_at(xs: &[f64], ys: &[f64], zs: &[f64], i: usize) -> NVector
+    requires { ⌜ i < length (spec.positions (now xs) (now ys) (now zs)) ⌝ }
+    ensures { λ r. ⌜ r ≡ spec.positionAt (now (xs .entry)) (now (ys .entry)) (now (zs .entry)) i ⌝ }
+{
+    NVector::new(Vec3 {
+        x: xs[i],
+        y: ys[i],
+        z: zs[i],
+    })
 }
 
 // Whether one of the first n positions is the antipode of one of them, itself included.
-fn contains_antipodal(entries: [Target; 64], n: usize) -> bool
-    requires { ⌜ n ≤ 64 ⌝ }
-    ensures { λ r. ⌜ r ≡ means.containsAntipodal (map spec.positionOf (take n entries)) ⌝ }
+fn contains_antipodal(xs: &[f64], ys: &[f64], zs: &[f64], n: usize) -> bool
+    requires { ⌜ n ≤ length (spec.positions (now xs) (now ys) (now zs)) ⌝ }
+    ensures { λ r. ⌜ r ≡ means.containsAntipodal (take n (spec.positions (now (xs .entry)) (now (ys .entry)) (now (zs .entry)))) ⌝ }
 {
     let mut i = 0;
     while i < n {
-        if contains(entries, n, position_of(entries[i]).antipode()) {
+        if contains(xs, ys, zs, n, position_at(xs, ys, zs, i).antipode()) {
             return true;
         }
         i += 1;
@@ -86,45 +127,51 @@ fn contains_antipodal(entries: [Target; 64], n: usize) -> bool
     false
 }
 
-// Whether one of the first n positions equals a.
-fn contains(entries: [Target; 64], n: usize, a: NVector) -> bool
-    requires { ⌜ n ≤ 64 ⌝ }
-    ensures { λ r. ⌜ r ≡ means.contains a (map spec.positionOf (take n entries)) ⌝ }
+// Whether one of the first n positions equals a. The x alone first: most often none has it.
+fn contains(xs: &[f64], ys: &[f64], zs: &[f64], n: usize, a: NVector) -> bool
+    requires { ⌜ n ≤ length (spec.positions (now xs) (now ys) (now zs)) ⌝ }
+    ensures { λ r. ⌜ r ≡ means.contains a (take n (spec.positions (now (xs .entry)) (now (ys .entry)) (now (zs .entry)))) ⌝ }
 {
+    let v = a.as_vec3();
+    if !among(xs, n, v.x) {
+        return false;
+    }
     let mut i = 0;
     while i < n {
-        if position_of(entries[i]).eq(a) {
+        if position_at(xs, ys, zs, i).eq(a) {
             return true;
         }
         i += 1;
     }
     false
+}
+
+// Whether one of the first n numbers equals x. There is no early return, so that several are compared at once.
+fn among(xs: &[f64], n: usize, x: f64) -> bool
+    requires { ⌜ n ≤ length (now xs) ⌝ }
+    ensures { λ r. ⌜ r ≡ means.any (λ y. Ieee.eq y x) (take n (now (xs .entry))) ⌝ }
+{
+    let mut found = false;
+    let mut i = 0;
+    while i < n {
+        found = found | (xs[i] == x);
+        i += 1;
+    }
+    found
 }
 
 // The sums of the parts of the first n positions.
-fn sum(entries: [Target; 64], n: usize) -> Vec3
-    requires { ⌜ n ≤ 64 ⌝ }
-    ensures { λ r. ⌜ r ≡ means.sum (map spec.positionOf (take n entries)) ⌝ }
+fn sum(xs: &[f64], ys: &[f64], zs: &[f64], n: usize) -> Vec3
+    requires { ⌜ n ≤ length (spec.positions (now xs) (now ys) (now zs)) ⌝ }
+    ensures { λ r. ⌜ r ≡ means.sum (take n (spec.positions (now (xs .entry)) (now (ys .entry)) (now (zs .entry)))) ⌝ }
 {
     let mut s = Vec3::ZERO;
     let mut i = 0;
     while i < n {
-        s = plus(s, position_of(entries[i]));
+        s = plus(s, position_at(xs, ys, zs, i));
         i += 1;
     }
     s
-}
-
-// s with the parts of p added to its own.
-fn plus(s: Vec3, p: NVector) -> Vec3
-    ensures { λ r. ⌜ r ≡ means.plus s p ⌝ }
-{
-    let v = p.as_vec3();
-    Vec3 {
-        x: s.x + v.x,
-        y: s.y + v.y,
-        z: s.z + v.z,
-    }
 }
 
 // Some target whose found meeting time is least.

@@ -190,10 +190,11 @@ odd-with-sign true (suc q) k = refl
 
 -- the magnitude of y is at most that of x, and not zero
 pub record Divides (x y : Float) : Type 0 where
+  pub dividend : digits-of x < 2 ^ 53
+  pub under : place-of x < 2046
   pub divisor : 0 < digits-of y
   pub small : digits-of y < 2 ^ 53
   pub order : place-of y ≤ place-of x
-  pub under : place-of y < 2046
   pub is : rem binary64 x y ≡ with-sign (signBit x) (rem-parts (partsOf (toBits binary64 x)) (partsOf (toBits binary64 y)))
 
 pub rem-of-larger : (x y : Float) → T (fits binary64 x) → T (fits binary64 y) → T (finite x) → (toBits binary64 y % 2 ^ 63 ≡ 0 → ⊥) → toBits binary64 y % 2 ^ 63 ≤ toBits binary64 x % 2 ^ 63 → Divides x y
@@ -214,10 +215,11 @@ rem-of-larger x y f g t z h =
     ∙ ap (λ (n : ℕ). n % units-of y) (ap (λ (n : ℕ). digits-of x * n) (pow-add 2 (place-of x - j) j) ∙ sym (mul-assoc (digits-of x) (2 ^ (place-of x - j)) (2 ^ j)))
     ∙ mul-mod-mul Q (digits-of y) (2 ^ j) D (pow-pos j) in
     record {
+      dividend = p .placed .small;
+      under = p .placed .under;
       divisor = D;
       small = q .placed .small;
       order = o;
-      under = q .placed .under;
       is =
           same-value (rem binary64 x y) (odd 53 (signBit x) (Q % digits-of y) j 1074) (signBit x) (Q % digits-of y * 2 ^ j) (rem-fits binary64 x y f) (odd-held (signBit x) (Q % digits-of y) j s (q .placed .under))
           (rem-value x y (units-of x) (units-of y) (Q % digits-of y) j (p .value) (q .value) (mul-pos D (pow-pos j)) e s (q .placed .under))

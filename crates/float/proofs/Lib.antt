@@ -2,6 +2,7 @@ pub mod Ordering
 pub mod Pattern
 pub mod Sign
 pub mod Value
+pub mod Halves
 pub mod Modulo
 pub mod Leading
 pub mod Fmod

@@ -10,20 +10,7 @@ use crate::bits::Parts;
 use crate::bits::SIGN;
 use crate::bits::parts_of;
 use crate::bits::sign_bit;
-
-// digits * 2^k modulo m: eleven bits a step, since m leaves eleven of 64 free.
-fn shifted_rem(digits: u64, k: u64, m: u64) -> u64
-    requires { ⌜ (0 < m) × (m < 2 ^ 53) ⌝ }
-    ensures { λ r. ⌜ r ≡ digits * 2 ^ k % m ⌝ }
-{
-    let mut rest = digits % m;
-    let mut left = k;
-    while left >= 11 {
-        rest = rest * 2048 % m;
-        left -= 11;
-    }
-    (rest << left) % m
-}
+use crate::modular::shifted_rem;
 
 // digits * 2^place units of 2^-1074 as a float: the digits are shifted up until one leads, or the place is used up.
 fn of_parts(digits: u64, place: u64) -> f64
@@ -42,7 +29,7 @@ fn of_parts(digits: u64, place: u64) -> f64
 
 // The remainder of two magnitudes by their parts: both are whole numbers of 2^place units, with the place of b.
 fn rem_of_parts(a: Parts, b: Parts) -> f64
-    requires { ⌜ (0 < b .digits) × (b .digits < 2 ^ 53) × (b .place ≤ a .place) × (b .place < 2046) ⌝ }
+    requires { ⌜ (a .digits < 2 ^ 53) × (a .place < 2046) × (0 < b .digits) × (b .digits < 2 ^ 53) × (b .place ≤ a .place) ⌝ }
     ensures { λ r. ⌜ r ≡ Ieee.odd 53 false (a .digits * 2 ^ (a .place - b .place) % b .digits) (b .place) 1074 ⌝ }
 {
     let place = b.place;

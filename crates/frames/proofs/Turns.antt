@@ -6,7 +6,7 @@ use mathlib.Core.Path.{_≡_, refl, sym, ap, _∙_, subst}
 use native.Mathlib.Numerals.{add-one}
 use native.Mathlib.Omega.{arith}
 use borrow.Author.Tests.{ne-eqb, lt-ltb, le-ltb}
-use lib.ListN.{length, take, set, getD}
+use lib.ListN.{length, take, set, getD, length-set}
 use lib.Seq.{take-all, take-suc, take-suc-set, length-take-le}
 use Rattle.board.specs.Board.{Plain}
 use Rattle.board.specs.Glance.{settingOf, boardOf}
@@ -35,12 +35,12 @@ pub record Answers (qs : List Asked) (page out : List ℕ) (at : ℕ) : Type 0 w
   pub text-of : Text qs text
   pub wrote : Wrote page 0 (length text) text out at
 
-pub answers-then : {qs ps : List Asked} {page mid out u : List ℕ} {at next : ℕ} → Answers qs page mid at → Text ps u
+answers-then : {qs ps : List Asked} {page mid out u : List ℕ} {at next : ℕ} → Answers qs page mid at → Text ps u
     → Wrote mid at (length u) u out next → Answers (qs ++ ps) page out next
 answers-then a t w =
     record { text = a .text ++ _; text-of = text-append (a .text-of) t; wrote = as-length (then (a .wrote) w) refl }
 
-pub answers-by : {qs ps : List Asked} {page out : List ℕ} {at : ℕ} → qs ≡ ps → Answers qs page out at → Answers ps page out at
+answers-by : {qs ps : List Asked} {page out : List ℕ} {at : ℕ} → qs ≡ ps → Answers qs page out at → Answers ps page out at
 answers-by e a = record { text = a .text; text-of = text-by e (a .text-of); wrote = a .wrote }
 
 module _ (m : Model) (xs : List ℕ) (i : ℕ) (h : i < length xs) where
@@ -56,12 +56,12 @@ module _ (m : Model) (xs : List ℕ) (i : ℕ) (h : i < length xs) where
 
   module _ (o : Option Plain) (p : List ℕ) (now-at : _≡_ {A = Model} (record { board = o; part = p }) (fedState m (take i xs))) where
     -- a newline
-    pub line-state : (o′ : Option Plain) → getD xs i 0 ≡ newline → o′ ≡ next o (frameOf p)
+    line-state : (o′ : Option Plain) → getD xs i 0 ≡ newline → o′ ≡ next o (frameOf p)
         → _≡_ {A = Model} (record { board = o′; part = [] }) (fedState m (take (i + 1) xs))
     unfolding stepped
     line-state o′ e n = sym (state-next ∙ rw (← now-at, e, n))
 
-    pub line-asks : getD xs i 0 ≡ newline
+    line-asks : getD xs i 0 ≡ newline
         → fedAsks m (take i xs) ++ (asked o (frameOf p) ∷ []) ≡ fedAsks m (take (i + 1) xs)
     unfolding asks
     line-asks e = sym (asks-next ∙ rw (← now-at, e))
@@ -72,13 +72,13 @@ module _ (m : Model) (xs : List ℕ) (i : ℕ) (h : i < length xs) where
     unfolding stepped
     byte-state p′ e n = sym (state-next ∙ rw (← now-at, ne-eqb (getD xs i 0) newline e, n))
 
-    pub byte-asks : (getD xs i 0 ≡ newline → ⊥) → fedAsks m (take i xs) ≡ fedAsks m (take (i + 1) xs)
+    byte-asks : (getD xs i 0 ≡ newline → ⊥) → fedAsks m (take i xs) ≡ fedAsks m (take (i + 1) xs)
     unfolding asks
     byte-asks e = sym (asks-next ∙ rw (← now-at, ne-eqb (getD xs i 0) newline e) (append-nil (fedAsks m (take i xs))))
 
   module _ (o : Option Plain) (line : List ℕ) (n : ℕ) (long : length line ≡ kept) (fits : n ≤ kept)
       (now-at : _≡_ {A = Model} (record { board = o; part = take n line }) (fedState m (take i xs))) where
-    pub kept-state : (getD xs i 0 ≡ newline → ⊥) → n < kept
+    kept-state : (getD xs i 0 ≡ newline → ⊥) → n < kept
         → _≡_ {A = Model} (record { board = o; part = take (n + 1) (set line n (getD xs i 0)) }) (fedState m (take (i + 1) xs))
     unfolding added
     kept-state e k =
@@ -86,7 +86,7 @@ module _ (m : Model) (xs : List ℕ) (i : ℕ) (h : i < length xs) where
         byte-state o (take n line) now-at (take (n + 1) (set line n (getD xs i 0))) e
         (rw (add-one n, take-suc-set line n (getD xs i 0) (omega arith), l, lt-ltb n kept k))
 
-    pub lost-state : (getD xs i 0 ≡ newline → ⊥) → kept ≤ n
+    lost-state : (getD xs i 0 ≡ newline → ⊥) → kept ≤ n
         → _≡_ {A = Model} (record { board = o; part = take n line }) (fedState m (take (i + 1) xs))
     unfolding added
     lost-state e k =
@@ -190,6 +190,32 @@ module _ {m : Model} {xs page₀ page line : List ℕ} {s : Session} {n at i : �
   pub passed-whole : {out : List ℕ} {r : Answered} → Answering s f page at out r
       → Passed m xs page₀ out (sessionOf (r .started) (r .setting) (r .targets .entries)) line 0 (r .next) (i + 1)
   passed-whole a = line-passed _ (a .session-is) (a .text-of) (a .wrote)
+
+-- another byte passed: kept, or lost where enough of its line is kept
+module _ {m : Model} {xs page₀ page line : List ℕ} {s : Session} {n at i : ℕ} (v : Passed m xs page₀ page s line n at i) (h : i < length xs)
+    (e : getD xs i 0 ≡ newline → ⊥) where
+  asked-same : Answers (fedAsks m (take (i + 1) xs)) page₀ page at
+  asked-same = answers-by (byte-asks m xs i h (plainOf s) (take n line) (v .state) e) (v .answers)
+
+  pub passed-kept : n < kept → Passed m xs page₀ page s (set line n (getD xs i 0)) (n + 1) at (i + 1)
+  passed-kept k =
+      record {
+        within = omega arith;
+        fits = omega arith;
+        long = simp length-set (v .long);
+        state = kept-state m xs i h (plainOf s) line n (v .long) (v .fits) (v .state) e k;
+        answers = asked-same;
+      }
+
+  pub passed-lost : kept ≤ n → Passed m xs page₀ page s line n at (i + 1)
+  passed-lost k =
+      record {
+        within = omega arith;
+        fits = v .fits;
+        long = v .long;
+        state = lost-state m xs i h (plainOf s) line n (v .long) (v .fits) (v .state) e k;
+        answers = asked-same;
+      }
 
 -- the same of an equal session, and from an equal start
 pub answering-by : {s t : Session} {f : Frame} {page out : List ℕ} {at : ℕ} {r : Answered} → s ≡ t → Answering s f page at out r → Answering t f page at out r

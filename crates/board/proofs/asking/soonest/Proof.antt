@@ -1,13 +1,13 @@
 -- `soonest` meets its contract. The loop has folded the targets passed.
-use Prim.Native.Nat.{_+_, _-_, _≤_}
+use Prim.Native.Nat.{_-_, _≤_}
 use native.Mathlib.Omega.{arith}
-use mathlib.Core.Path.{_≡_, sym, ap, _∙_}
+use mathlib.Core.Path.{_≡_, refl}
 use lib.ListN.{length, take, drop}
 use borrow.Author.Needs.{needs}
 use Rattle.spherical.specs.Mean.{fold}
 use Rattle.board.specs.declared.asking.Best.the-variants.{Missing}
 use Rattle.board.specs.Asking.{better}
-use Rattle.board.proofs.Loops.{rest-on, rest-out}
+use Rattle.board.proofs.Loops.{fold-on, fold-out}
 use Rattle.board.proofs.Arrays.{absent}
 use Rattle.board.proofs.asking.soonest.Statement.{statement}
 use Rattle.board.proofs.asking.soonest.Tie as tie
@@ -42,14 +42,13 @@ loop-again c = let at = c .before .before .before in
     let a = at .before .args in (
       search needs,
       search needs,
-      at .loop .inv .2 ∙ ap (fold better (at .loop .b)) (rest-on (a .n) (a .t1) (omega arith) (at .loop .i) absent (omega arith))
-          ∙ ap (λ s. fold better s (drop (at .loop .i + 1) (take (a .n) (a .t1)))) (sym (c .better .ensures)),
+      fold-on (a .n) (a .t1) (omega arith) (at .loop .i) better Missing (at .loop .b) (at .loop .inv .2) absent _ (omega arith) refl (c .better .result) (c .better .ensures),
     )
 
 returns : tie.Need-returns Inv-loop μ-loop
 returns c = let at = c .before in
     let a = at .before .args in
-    sym (at .loop .inv .2 ∙ ap (fold better (at .loop .b)) (rest-out (a .n) (a .t1) (omega arith) (at .loop .i) (omega arith)))
+    fold-out (a .n) (a .t1) (omega arith) (at .loop .i) better Missing (at .loop .b) (at .loop .inv .2) (omega arith)
 
 pub soonest-spec : {M : Type 1} → statement M
 soonest-spec =

@@ -62,7 +62,7 @@ parts-of-requires-2 c κs = search needs
 rem-of-parts-requires : tie.Need-rem-of-parts-requires
 rem-of-parts-requires c κs =
     let d = divides (c .before .before) in
-    rw (c .parts-of2 .ensures, c .before .parts-of .ensures) (d .divisor, d .small, d .order, d .under)
+    rw (c .parts-of2 .ensures, c .before .parts-of .ensures) (d .dividend, d .under, d .divisor, d .small, d .order)
 
 sign-bit-requires : tie.Need-sign-bit-requires
 sign-bit-requires c κs = search needs

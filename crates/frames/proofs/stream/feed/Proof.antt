@@ -5,17 +5,17 @@ use Prim.Native.Nat.{_+_, _-_, _<_}
 use mathlib.Core.Logic.{inl, inr}
 use mathlib.Core.Path.{_≡_, refl, sym, subst}
 use native.Mathlib.Omega.{arith}
-use lib.ListN.{length, take, getD, length-set}
+use lib.ListN.{length, take, getD}
 use lib.Seq.{length-take-le}
 use Rattle.board.specs.Glance.{settingOf, Under}
 use Rattle.hex.proofs.Write.{wrote-nothing}
 use Rattle.frames.specs.Session.{plainOf}
 use Rattle.frames.specs.Quick.{sessionOf, Quickly}
-use Rattle.frames.specs.Stream.{kept, room, Model, fedState, fedAsks}
+use Rattle.frames.specs.Stream.{kept, room, fedState, fedAsks}
 use Rattle.frames.specs.Whole.{newline}
 use Rattle.frames.proofs.Quicks.{session-parts, under-own}
 use Rattle.frames.proofs.Texts.{text-none}
-use Rattle.frames.proofs.Turns.{Passed, answers-by, passed-step, passed-whole, answering-by, passed-from, kept-state, lost-state, byte-asks, least-fits, feeding}
+use Rattle.frames.proofs.Turns.{Passed, passed-step, passed-whole, passed-kept, passed-lost, answering-by, passed-from, least-fits, feeding}
 use Rattle.frames.proofs.stream.feed.Statement.{statement}
 use Rattle.frames.proofs.stream.feed.Tie as tie
 
@@ -182,21 +182,7 @@ loop-less-2 c = omega arith
 loop-again-2 : tie.Need-loop-again-2 Inv-loop μ-loop
 loop-again-2 c =
     let l = c .before .before .before .before .loop in
-    let a = c .before .before .before .before .before .before .before .before .before .before .before .before .before .before .before .args in
-    let m : Model = record { board = plainOf (sessionOf (a .s .session .started) (c .before .before .before .before .before .before .before .before .before .setting-of .result) (a .s .session .board .targets .entries)); part = take (c .before .before .before .before .before .kept .result) (a .s .line) } in
-    let v = l .inv .2 in
-    let t : l .i < length (a .xs .now) = omega arith in
-    let e = c .before .if1 .left in (
-      l .inv .0,
-      l .inv .1,
-      record {
-        within = omega arith;
-        fits = omega arith;
-        long = simp length-set (v .long);
-        state = kept-state m (a .xs .now) (l .i) t (plainOf (sessionOf (l .started) (l .setting) (l .entries))) (l .line) (l .n) (v .long) (v .fits) (v .state) e (c .if3 .taken);
-        answers = answers-by (byte-asks m (a .xs .now) (l .i) t (plainOf (sessionOf (l .started) (l .setting) (l .entries))) (take (l .n) (l .line)) (v .state) e) (v .answers);
-      },
-    )
+    (l .inv .0, l .inv .1, passed-kept (l .inv .2) (omega arith) (c .before .if1 .left) (c .if3 .taken))
 
 add-i-3 : tie.Need-add-i-3 Inv-loop μ-loop
 add-i-3 c = omega arith
@@ -207,21 +193,7 @@ loop-less-3 c = omega arith
 loop-again-3 : tie.Need-loop-again-3 Inv-loop μ-loop
 loop-again-3 c =
     let l = c .before .before .before .before .loop in
-    let a = c .before .before .before .before .before .before .before .before .before .before .before .before .before .before .before .args in
-    let m : Model = record { board = plainOf (sessionOf (a .s .session .started) (c .before .before .before .before .before .before .before .before .before .setting-of .result) (a .s .session .board .targets .entries)); part = take (c .before .before .before .before .before .kept .result) (a .s .line) } in
-    let v = l .inv .2 in
-    let t : l .i < length (a .xs .now) = omega arith in
-    let e = c .before .if1 .left in (
-      l .inv .0,
-      l .inv .1,
-      record {
-        within = omega arith;
-        fits = v .fits;
-        long = v .long;
-        state = lost-state m (a .xs .now) (l .i) t (plainOf (sessionOf (l .started) (l .setting) (l .entries))) (l .line) (l .n) (v .long) (v .fits) (v .state) e (c .if3 .left);
-        answers = answers-by (byte-asks m (a .xs .now) (l .i) t (plainOf (sessionOf (l .started) (l .setting) (l .entries))) (take (l .n) (l .line)) (v .state) e) (v .answers);
-      },
-    )
+    (l .inv .0, l .inv .1, passed-lost (l .inv .2) (omega arith) (c .before .if1 .left) (c .if3 .left))
 
 session-of-requires-2 : tie.Need-session-of-requires-2 Inv-loop μ-loop
 session-of-requires-2 c κs = tt
