@@ -27,4 +27,5 @@ refused! {
     solves::run() -> std::io::Result<bool>;
     speeds::run() -> std::io::Result<bool>;
     stored::write(&str, &str) -> std::io::Result<()>;
+    whole::run(u64) -> Result<bool, String>;
 }

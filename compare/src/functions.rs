@@ -1,8 +1,9 @@
 //! The table of the float layer: one row gives number, arguments, inputs and both sides.
+//! Also all tables together.
 
 use crate::answer::Answer;
 use crate::function::{Function, Linked};
-use crate::{inputs, ours, reference, second};
+use crate::{inputs, original, ours, reference, second};
 
 /// An argument read from its word.
 pub trait Argument {
@@ -74,3 +75,13 @@ pub const CHECKS: &[Linked] = &[
     row!(0x0d from_hours(h) HOURS: reference, second),
     row!(0x0e to_seconds(nanoseconds) NANOSECONDS: reference, second),
 ];
+
+/// The functions 01 to 0e.
+pub fn floats() -> impl Iterator<Item = &'static Function> {
+    FUNCTIONS.iter().map(|linked| &linked.function)
+}
+
+/// The functions 10 to 8d.
+pub fn ported() -> impl Iterator<Item = &'static Function> {
+    original::FUNCTIONS.iter().chain(original::SPHERE).chain(original::NINE)
+}

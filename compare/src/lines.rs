@@ -1,8 +1,7 @@
 //! `probe`'s text: lines that it reads, and those that the reference would write.
 
 use crate::function::Function;
-use crate::functions::FUNCTIONS;
-use crate::{hexadecimal, original};
+use crate::{functions, hexadecimal};
 
 /// Lines that are no call; the answer to each is `?`.
 const MALFORMED: &[&str] = &[
@@ -151,9 +150,8 @@ pub fn each(floats: Share, original: Share, mut meet: impl FnMut(Line)) {
     for (number, count) in MISCOUNTED {
         meet(Line::Malformed(&text(*number, &vec![1f64.to_bits(); *count])));
     }
-    FUNCTIONS.iter().for_each(|linked| each_call(&linked.function, floats, &mut meet));
-    let ported = original::FUNCTIONS.iter().chain(original::SPHERE).chain(original::NINE);
-    ported.for_each(|function| each_call(function, original, &mut meet));
+    functions::floats().for_each(|function| each_call(function, floats, &mut meet));
+    functions::ported().for_each(|function| each_call(function, original, &mut meet));
 }
 
 /// The calls of one function.

@@ -26,21 +26,23 @@ mod second;
 mod stream;
 mod time;
 
-use original::{answering, boards, chases, plot, plots, solves, speeds, stored};
+use original::{answering, boards, chases, plot, plots, solves, speeds, stored, whole};
 use std::{env, io, process::ExitCode};
 
-const USAGE: &str = "usage: compare scale [N] | time | jord [N] | sphere [N] | nine [N] | chases [N] \
-                     | solves | answer | sample STDIN STDOUT | probe [N] | board [N] | plots [N] \
+const USAGE: &str = "usage: compare whole [PERCENT] | scale [N] | time | jord [N] | sphere [N] \
+                     | nine [N] | chases [N] | solves | answer | sample STDIN STDOUT | probe [N] | board [N] | plots [N] \
                      | speeds | plot | session STDIN STDOUT";
 const NOT_LINKED: &str =
     "no library: run `rt staticlib exports` in the repository's root, then build again";
 const NOT_BUILT: &str = "no original: put its source in ../../shared/docs/src, or name its folder \
                          in JORD_SRC, then build again";
 /// Commands that need the original.
-const ORIGINAL: [&str; 13] = [
-    "jord", "sphere", "nine", "chases", "solves", "answer", "sample", "probe", "board", "plots",
-    "speeds", "plot", "session",
+const ORIGINAL: [&str; 14] = [
+    "whole", "jord", "sphere", "nine", "chases", "solves", "answer", "sample", "probe", "board",
+    "plots", "speeds", "plot", "session",
 ];
+/// How much of all the following numbers the whole comparison meets.
+const PERCENT: u64 = 100;
 /// Drawn inputs for each function, unless the command says otherwise.
 const SCALE: u64 = 10_000_000;
 const JORD: u64 = 1_000_000;
@@ -68,8 +70,9 @@ fn main() -> ExitCode {
 /// Whether all compared answers are equal; an error if nothing could be compared.
 fn run(words: &[&str]) -> Result<bool, String> {
     match words {
-        ["scale" | "time", ..] if !ours::LINKED => Err(NOT_LINKED.into()),
+        ["whole" | "scale" | "time", ..] if !ours::LINKED => Err(NOT_LINKED.into()),
         [command, ..] if ORIGINAL.contains(command) && !original::BUILT => Err(NOT_BUILT.into()),
+        ["whole", rest @ ..] => whole::run(count(rest, PERCENT)?),
         ["scale", rest @ ..] => Ok(scale::run(count(rest, SCALE)?)),
         ["time"] => {
             time::run();

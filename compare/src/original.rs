@@ -2,6 +2,7 @@
 //! call.
 
 pub mod answering;
+mod beside;
 mod board;
 pub mod boards;
 pub mod chases;
@@ -20,6 +21,7 @@ pub mod solves;
 pub mod speeds;
 pub mod stored;
 mod walks;
+pub mod whole;
 
 use crate::answer::{ANTIPODAL, Answer, EMPTY, OUTSIDE};
 use crate::function::Function;

@@ -18,7 +18,9 @@ pub fn run(count: u64) -> bool {
     for (functions, note) in [(FUNCTIONS, ""), (CHECKS, " (reference)")] {
         for linked in functions {
             let tally = compared(linked, count);
-            tally.print(&format!("{}{note}", linked.function.name));
+            let name = format!("{}{note}", linked.function.name);
+            println!("{name:<28}{:>12}{:>12}", tally.inputs, tally.differences);
+            tally.print_first();
             equal &= tally.differences == 0;
         }
     }
@@ -28,9 +30,9 @@ pub fn run(count: u64) -> bool {
 
 /// What one comparison met.
 #[derive(Default)]
-struct Tally {
-    inputs: u64,
-    differences: u64,
+pub struct Tally {
+    pub inputs: u64,
+    pub differences: u64,
     first: Vec<String>,
 }
 
@@ -64,14 +66,13 @@ impl Tally {
         self
     }
 
-    fn print(&self, name: &str) {
-        println!("{name:<28}{:>12}{:>12}", self.inputs, self.differences);
+    pub fn print_first(&self) {
         self.first.iter().for_each(|line| println!("{line}"));
     }
 }
 
 /// The boundaries, then the drawn inputs, parted among the threads.
-fn compared(linked: &Linked, count: u64) -> Tally {
+pub fn compared(linked: &Linked, count: u64) -> Tally {
     let mut fixed = Tally::default();
     linked.function.each_fixed(REACH, |words| fixed.meet(linked, words));
     thread::scope(|scope| {

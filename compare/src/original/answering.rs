@@ -1,9 +1,10 @@
-//! A Rust program with `probe`'s lines: the sphere's functions, the walks by the watched copy alone.
+//! A Rust program with `probe`'s lines: every function, the walks by the watched copy alone.
 
-use super::SPHERE;
 use super::shapes::{Argument, taken};
 use super::walks::{self, Line};
 use crate::answer::{Answer, Walk};
+use crate::function::Function;
+use crate::functions;
 use crate::hexadecimal::VALUES;
 use crate::jord::spherical::Sphere;
 use crate::jord::{NVector, Vehicle};
@@ -15,10 +16,11 @@ const BUFFER: usize = 1 << 16;
 pub fn run() -> io::Result<()> {
     let mut stdin = io::stdin().lock();
     let mut stdout = BufWriter::with_capacity(BUFFER, io::stdout().lock());
+    let functions = by_number();
     let (mut line, mut words, mut answer) = (Vec::new(), Vec::new(), Vec::new());
     while stdin.read_until(b'\n', &mut line)? > 0 {
         let call = parsed(line.strip_suffix(b"\n").unwrap_or(&line), &mut words);
-        match call.and_then(|number| answered(number, &words)) {
+        match call.and_then(|number| answered(functions[number as usize]?, &words)) {
             Some(fields) => fields.write(&mut answer),
             None => answer.push(b'?'),
         }
@@ -30,10 +32,17 @@ pub fn run() -> io::Result<()> {
     stdout.flush()
 }
 
-fn answered(number: u8, words: &[u64]) -> Option<Answer> {
-    let function = SPHERE.iter().find(|function| function.number == number)?;
+/// Every function in the place of its number: a search for each line would count as its time.
+fn by_number() -> [Option<&'static Function>; 256] {
+    let mut by_number = [None; 256];
+    let all = functions::floats().chain(functions::ported());
+    all.for_each(|function| by_number[function.number as usize] = Some(function));
+    by_number
+}
+
+fn answered(function: &Function, words: &[u64]) -> Option<Answer> {
     let fits = (function.fewest..=function.arity).contains(&words.len());
-    fits.then(|| walked(number, words).unwrap_or_else(|| (function.reference)(words)))
+    fits.then(|| walked(function.number, words).unwrap_or_else(|| (function.reference)(words)))
 }
 
 /// A walk or a solve without the plain original's opinion, which would take twice the time.

@@ -21,29 +21,52 @@ const LENGTHS: [u64; 6] = [1, 10, 50, 200, 600, 1_500];
 pub fn run(calls: u64) -> io::Result<bool> {
     println!("seed {SEED:016x}");
     let lists = lists(calls.div_ceil(2))?;
-    let exchanges = exchanges::compare(calls.div_ceil(2))?;
-    Ok(lists && exchanges)
+    lists.print();
+    let exchanged = exchanges::compare(calls.div_ceil(2))?;
+    exchanged.print();
+    let differences = lists.tally.differences + exchanged.differences();
+    Ok(differences == 0 && lists.missing().is_empty())
+}
+
+/// What some lists came to.
+#[derive(Default)]
+pub struct Lists {
+    pub tally: Tally,
+    met: Met,
+    lists: u64,
+    ties: u64,
+}
+
+impl Lists {
+    fn print(&self) {
+        let Lists { tally: Tally { lines, differences, .. }, lists, ties, .. } = self;
+        print!("lists: {lists}, calls {lines}, picks among equals {ties}, ");
+        println!("differences {differences}");
+        self.met.print();
+    }
+
+    /// The numbers that were not met; a list has no line that is no frame.
+    pub fn missing(&self) -> Vec<String> {
+        let missing = self.met.missing().into_iter();
+        missing.filter(|number| number != "ff no frame 01").collect()
+    }
 }
 
 /// Random lists, each on a fresh board.
-fn lists(calls: u64) -> io::Result<bool> {
+pub fn lists(calls: u64) -> io::Result<Lists> {
     let mut r = Random::new(STREAM);
-    let (mut tally, mut met) = (Tally::default(), Met::default());
-    let (mut lists, mut ties) = (0, 0);
-    while tally.lines < calls {
+    let mut all = Lists::default();
+    while all.tally.lines < calls {
         let mut script = Script::new();
         while script.count() < RUN {
-            lists += 1;
+            all.lists += 1;
             list(&mut r, &mut script);
         }
-        tally.whole(&script)?;
-        met.add(&script.replies);
-        ties += script.ties;
+        all.tally.whole(&script)?;
+        all.met.add(&script.replies);
+        all.ties += script.ties;
     }
-    let Tally { lines, differences, .. } = tally;
-    println!("lists: {lists}, calls {lines}, picks among equals {ties}, differences {differences}");
-    // A list has no line that is no frame.
-    Ok(met.print() == ["ff no frame 01"] && differences == 0)
+    Ok(all)
 }
 
 fn list(r: &mut Random, script: &mut Script) {

@@ -34,38 +34,48 @@ impl Pair {
 
 /// What the exchanges came to.
 #[derive(Default)]
-struct Exchanged {
+pub struct Exchanged {
+    pub tally: Tally,
+    met: Met,
     pairs: u64,
     exchanges: u64,
     moved: u64,
-    differences: u64,
+    /// Pairs whose lists are not alike.
+    unlike: u64,
 }
 
-/// Whether nothing differs over so many calls, and no list from what exchanges make of it.
-pub fn compare(calls: u64) -> io::Result<bool> {
+/// So many calls: each reply beside the board's here, each list beside what exchanges make of it.
+pub fn compare(calls: u64) -> io::Result<Exchanged> {
     let mut r = Random::new(STREAM);
-    let (mut tally, mut met) = (Tally::default(), Met::default());
     let mut all = Exchanged::default();
-    while tally.lines < calls {
+    while all.tally.lines < calls {
         let mut script = Script::new();
         let mut pairs = Vec::new();
         while script.count() < RUN {
             pairs.push(pair(&mut r, &mut script, &mut all.exchanges));
         }
-        let replies = tally.whole(&script)?;
+        let replies = all.tally.whole(&script)?;
         let replies: Vec<&[u8]> = replies.split(|byte| *byte == b'\n').collect();
         pairs.iter().for_each(|pair| all.meet(pair, &replies));
-        met.add(&script.replies);
+        all.met.add(&script.replies);
     }
-    let Exchanged { pairs, exchanges, moved, differences } = all;
-    println!("exchanges: {pairs} pairs of lists, calls {}, exchanges {exchanges}", tally.lines);
-    println!("  calls elsewhere in the second list {moved}");
-    println!("  differences {}, between the two lists {differences}", tally.differences);
-    met.print();
-    Ok(tally.differences == 0 && differences == 0)
+    Ok(all)
 }
 
 impl Exchanged {
+    pub fn print(&self) {
+        let Exchanged { tally: Tally { lines, differences, .. }, pairs, exchanges, .. } = self;
+        println!("exchanges: {pairs} pairs of lists, calls {lines}, exchanges {exchanges}");
+        println!("  calls elsewhere in the second list {}", self.moved);
+        println!("  differences {differences}, between the two lists {}", self.unlike);
+        self.met.print();
+    }
+
+    /// From the board's replies, and between two lists.
+    pub fn differences(&self) -> u64 {
+        self.tally.differences + self.unlike
+    }
+
     /// Each call keeps its answer, and all that is asked afterwards is answered alike.
     fn meet(&mut self, pair: &Pair, replies: &[&[u8]]) {
         let [first, second] = [0, 1].map(|list| {
@@ -78,7 +88,7 @@ impl Exchanged {
         self.pairs += 1;
         self.moved += moved as u64;
         if !alike {
-            self.differences += 1;
+            self.unlike += 1;
             println!(
                 "  the lists in lines {:?} and {:?} of a run differ",
                 pair.lines(0),

@@ -46,30 +46,47 @@ impl Met {
         }
     }
 
-    /// Prints how often each number was met; gives those that were not.
-    pub fn print(&self) -> Vec<String> {
+    /// Every kind of reply and every walk, with how often each of its numbers was met.
+    fn rows(&self) -> Vec<(String, Vec<(&'static str, u64)>)> {
+        let replies = NUMBERS.iter().map(|(kind, name, numbers)| {
+            let head = |number: &str| -> [u8; 4] {
+                [kind.as_bytes(), number.as_bytes()].concat().try_into().expect("four digits")
+            };
+            let count = |number: &str| self.replies.get(&head(number));
+            (format!("{kind} {name}"), counts(numbers, count))
+        });
+        let walks = WALKS.iter().enumerate().map(|(walk, (name, numbers))| {
+            let key = |number: &str| (walk, number.as_bytes().try_into().expect("two digits"));
+            (format!("   {name}"), counts(numbers, |number| self.walks.get(&key(number))))
+        });
+        replies.chain(walks).collect()
+    }
+
+    /// The numbers that were not met.
+    pub fn missing(&self) -> Vec<String> {
         let mut missing = Vec::new();
-        let mut row = |name: String, numbers: &[&str], count: &dyn Fn(&[u8]) -> Option<u64>| {
-            let counts = numbers.iter().map(|number| {
-                let count = count(number.as_bytes()).unwrap_or_default();
-                missing.extend((count == 0).then(|| format!("{} {number}", name.trim_start())));
-                format!("{number} {count}")
-            });
-            println!("  {name:<22}{}", counts.collect::<Vec<_>>().join(", "));
-        };
-        for (kind, name, numbers) in NUMBERS {
-            row(format!("{kind} {name}"), numbers, &|number| {
-                let head: [u8; 4] = [kind.as_bytes(), number].concat().try_into().ok()?;
-                self.replies.get(&head).copied()
-            });
+        for (name, counts) in self.rows() {
+            let none = counts.iter().filter(|(_, count)| *count == 0);
+            missing.extend(none.map(|(number, _)| format!("{} {number}", name.trim_start())));
         }
-        for (walk, (name, numbers)) in WALKS.iter().enumerate() {
-            row(format!("   {name}"), numbers, &|number| {
-                self.walks.get(&(walk, number.try_into().ok()?)).copied()
-            });
-        }
-        let names = if missing.is_empty() { "none".into() } else { missing.join(", ") };
-        println!("  not met: {names}");
         missing
     }
+
+    /// How often each number was met.
+    pub fn print(&self) {
+        for (name, counts) in self.rows() {
+            let counts = counts.iter().map(|(number, count)| format!("{number} {count}"));
+            println!("  {name:<22}{}", counts.collect::<Vec<_>>().join(", "));
+        }
+        let missing = self.missing();
+        let names = if missing.is_empty() { "none".into() } else { missing.join(", ") };
+        println!("  not met: {names}");
+    }
+}
+
+fn counts<'a>(
+    numbers: &[&'static str],
+    count: impl Fn(&str) -> Option<&'a u64>,
+) -> Vec<(&'static str, u64)> {
+    numbers.iter().map(|number| (*number, count(number).copied().unwrap_or_default())).collect()
 }

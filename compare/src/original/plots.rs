@@ -25,18 +25,45 @@ const FARTHEST: usize = 1_000;
 pub fn run(lines: u64) -> io::Result<bool> {
     println!("seed {SEED:016x}");
     let whole = whole(lines)?;
-    let [cut, by_line, by_piece, by_place] =
-        [cut()?, by_line()?, by_piece()?, by_place()?].map(|(name, tally)| {
-            let Tally { runs, lines, pieces, differences } = tally;
-            println!(
-                "{name}: {runs} runs, {lines} lines, {pieces} pieces, differences {differences}"
-            );
-            differences == 0
-        });
-    Ok(whole && cut && by_line && by_piece && by_place)
+    whole.print();
+    let mut equal = whole.tally.differences == 0 && whole.missing().is_empty();
+    for play in WAYS {
+        let (name, Tally { runs, lines, pieces, differences }) = play()?;
+        println!("{name}: {runs} runs, {lines} lines, {pieces} pieces, differences {differences}");
+        equal &= differences == 0;
+    }
+    Ok(equal)
 }
 
-fn whole(lines: u64) -> io::Result<bool> {
+/// What the inputs in one go came to.
+pub struct Whole {
+    pub tally: Tally,
+    met: Met,
+    /// For each sort of spoilt line how many there were, and how many of them are no frames.
+    spoilt: Vec<[u64; 2]>,
+    ties: u64,
+    open: u64,
+}
+
+impl Whole {
+    fn print(&self) {
+        let Whole { tally: Tally { runs, lines, differences, .. }, ties, open, .. } = self;
+        println!("in one go: {runs} runs, {lines} lines, differences {differences}");
+        println!("  the last newline lacks in {open} runs; picks among equals {ties}");
+        self.met.print();
+        println!("spoilt lines, and how many of them are no frames:");
+        for ((name, _), [count, none]) in SORTS.iter().zip(&self.spoilt) {
+            println!("  {name:<30}{count:>9}{none:>9}");
+        }
+    }
+
+    /// The numbers that were not met.
+    pub fn missing(&self) -> Vec<String> {
+        self.met.missing()
+    }
+}
+
+pub fn whole(lines: u64) -> io::Result<Whole> {
     let mut r = Random::new(WHOLE);
     let (mut tally, mut met) = (Tally::default(), Met::default());
     let mut spoilt = vec![[0; 2]; SORTS.len()];
@@ -58,18 +85,13 @@ fn whole(lines: u64) -> io::Result<bool> {
         ties += script.ties;
         open += (script.lines.last() != Some(&b'\n')) as u64;
     }
-    let Tally { runs, lines, differences, .. } = tally;
-    println!("in one go: {runs} runs, {lines} lines, differences {differences}");
-    println!("  the last newline lacks in {open} runs; picks among equals {ties}");
-    let missing = met.print();
-    println!("spoilt lines, and how many of them are no frames:");
-    for ((name, _), [count, none]) in SORTS.iter().zip(&spoilt) {
-        println!("  {name:<30}{count:>9}{none:>9}");
-    }
-    Ok(differences == 0 && missing.is_empty())
+    Ok(Whole { tally, met, spoilt, ties, open })
 }
 
 type Played = io::Result<(&'static str, Tally)>;
+
+/// The ways in pieces and in step; what they play does not depend on a number handed over.
+pub const WAYS: [fn() -> Played; 4] = [cut, by_line, by_piece, by_place];
 
 /// Written in pieces, without waiting for replies.
 fn cut() -> Played {

@@ -1,25 +1,18 @@
 //! Times many solves: `probe` and a Rust program that reads and writes the same lines.
 
+use super::beside::{Timed, lesser, milliseconds};
 use super::{answering, walks};
 use crate::inputs::random::{Random, SEED};
 use crate::inputs::scenes::{self, Layout, Scene};
 use crate::{lines, stream};
-use std::ffi::OsStr;
-use std::fs::{self, File};
 use std::hint::black_box;
-use std::process::Command;
+use std::io;
 use std::time::{Duration, Instant};
-use std::{env, io};
 
 const SOLVES: usize = 10_000;
 const ROUNDS: usize = 25;
 /// A stream that no comparison draws from.
 const STREAM: u64 = 1 << 18;
-/// In the build's own folder.
-const FOLDER: &str = env!("OUT_DIR");
-/// The sides, in names of files.
-pub const HERE: &str = "here";
-pub const RUST: &str = "rust";
 
 /// What is timed: a name, and for each scene a line for each number.
 type Case = (&'static str, &'static [(u8, Layout)]);
@@ -45,12 +38,6 @@ const CASES: [Case; 7] = [
     ("no line: starting the program", &[]),
 ];
 
-/// A file of lines, and the best milliseconds here and in Rust.
-struct Timed {
-    file: String,
-    best: [f64; 2],
-}
-
 /// Whether both programs answer alike. Rounds go through all cases: a busy spell spoils none.
 pub fn run() -> io::Result<bool> {
     let mut random = Random::new(STREAM);
@@ -58,19 +45,15 @@ pub fn run() -> io::Result<bool> {
     let inputs: Vec<_> = chases.iter().map(|scene| words(scene, scenes::solve)).collect();
     let mut timed = Vec::new();
     for (place, (_, calls)) in CASES.iter().enumerate() {
-        timed.push(Timed { file: written(place, &chases, calls)?, best: [f64::INFINITY; 2] });
+        timed.push(Timed::new(&format!("lines-{place}"), text(&chases, calls).as_bytes())?);
     }
     let mut alone = [f64::INFINITY; 2];
-    let mut equal = true;
     for _ in 0..ROUNDS {
-        for case in &mut timed {
-            let times = both(&case.file)?;
-            equal &= fs::read(answers(HERE))? == fs::read(answers(RUST))?;
-            case.best = lesser(case.best, times);
-        }
+        timed.iter_mut().try_for_each(|case| case.round(&stream::program(), "answer"))?;
         alone = lesser(alone, [run_all(&inputs, plain), run_all(&inputs, answering::solved)]);
     }
     print(&timed, alone);
+    let equal = timed.iter().all(|case| case.differences == 0);
     println!("\nanswers {}", if equal { "equal" } else { "differ" });
     Ok(equal)
 }
@@ -78,51 +61,25 @@ pub fn run() -> io::Result<bool> {
 fn print(timed: &[Timed], [plain, watched]: [f64; 2]) {
     println!("seed {SEED:016x}, {SOLVES} chases, best of {ROUNDS} rounds\n");
     println!("| lines | here, ms | Rust, ms | ratio |\n|---|---:|---:|---:|");
-    for ((name, _), Timed { best: [here, rust], .. }) in CASES.iter().zip(timed) {
-        println!("| {name} | {here:.1} | {rust:.1} | {:.2} |", here / rust);
+    for ((name, _), case) in CASES.iter().zip(timed) {
+        let ([here, rust], ratio) = (case.best, case.ratio());
+        println!("| {name} | {here:.1} | {rust:.1} | {ratio:.2} |");
     }
     println!("\n| solves in Rust, computation alone | ms |\n|---|---:|");
     println!("| the original | {plain:.1} |\n| its watched copy | {watched:.1} |");
 }
 
-pub fn lesser(a: [f64; 2], b: [f64; 2]) -> [f64; 2] {
-    [a[0].min(b[0]), a[1].min(b[1])]
-}
-
-/// The name of a file with the lines of a case.
-fn written(case: usize, chases: &[Scene], calls: &[(u8, Layout)]) -> io::Result<String> {
+/// The lines of a case.
+fn text(chases: &[Scene], calls: &[(u8, Layout)]) -> String {
     let text = |scene: &Scene| {
         let line = |(number, layout): &(u8, Layout)| lines::text(*number, &words(scene, *layout));
         calls.iter().map(|call| line(call) + "\n").collect::<String>()
     };
-    let file = format!("{FOLDER}/lines-{case}");
-    fs::write(&file, chases.iter().map(text).collect::<String>())?;
-    Ok(file)
+    chases.iter().map(text).collect()
 }
 
 fn words(scene: &Scene, layout: Layout) -> Vec<u64> {
     layout(scene).into_iter().map(f64::to_bits).collect()
-}
-
-/// The milliseconds of both programs on one file.
-fn both(file: &str) -> io::Result<[f64; 2]> {
-    let this = env::current_exe()?;
-    let here = once(&stream::program(), &[], file, HERE)?;
-    Ok([here, once(this.as_os_str(), &["answer"], file, RUST)?])
-}
-
-/// Milliseconds from the start of a program to its end, from a file into a file.
-pub fn once(program: &OsStr, words: &[&str], file: &str, side: &str) -> io::Result<f64> {
-    let (stdin, stdout) = (File::open(file)?, File::create(answers(side))?);
-    let start = Instant::now();
-    let status = Command::new(program).args(words).stdin(stdin).stdout(stdout).status()?;
-    let time = milliseconds(start);
-    status.success().then_some(time).ok_or_else(|| io::Error::other(format!("{status}")))
-}
-
-/// The file of a side's answers.
-pub fn answers(side: &str) -> String {
-    format!("{FOLDER}/answers-{side}")
 }
 
 /// Milliseconds of all solves within this program.
@@ -144,8 +101,4 @@ fn plain(words: &[u64]) -> walks::Line<Option<Duration>> {
             sphere.max_time_to_intercept(from, target),
         ]
     })
-}
-
-fn milliseconds(start: Instant) -> f64 {
-    start.elapsed().as_secs_f64() * 1e3
 }

@@ -1,24 +1,22 @@
 //! Times `plot` and the same in Rust on the same lines.
 
+use super::beside::Timed;
 use super::playing;
-use super::solves::{HERE, RUST, answers, lesser, once};
 use crate::inputs::frames::{Ends, Frame, MEAN, State, TOTAL};
 use crate::inputs::random::{Random, SEED};
 use crate::inputs::scenes::{self, EARTH, Scene};
-use std::{env, fs, io};
+use std::io;
 
 const ROUNDS: usize = 7;
 /// A stream that no comparison draws from.
 const STREAM: u64 = 1 << 19;
-/// In the build's own folder.
-const FOLDER: &str = env!("OUT_DIR");
 const HELD: usize = 64;
 
 /// What is timed: a name, how many lines, and the line in a place of the file.
 /// Ahead of them stand a fresh board, own ship, track and a report of each target.
-type Case = (&'static str, usize, fn(&Fleet, usize, &mut Vec<u8>));
+pub type Case = (&'static str, usize, fn(&Fleet, usize, &mut Vec<u8>));
 
-const CASES: &[Case] = &[
+pub const CASES: &[Case] = &[
     ("reports, 64 identities", 1_000_000, |fleet, place, text| {
         Frame::report(identity(place), fleet.report(place)).write(text);
     }),
@@ -48,7 +46,7 @@ const CASES: &[Case] = &[
 ];
 
 /// A scene for each target; reports take turns through all.
-struct Fleet(Vec<Scene>);
+pub struct Fleet(Vec<Scene>);
 
 impl Fleet {
     fn report(&self, place: usize) -> State {
@@ -79,39 +77,32 @@ fn identity(place: usize) -> u16 {
     (place % HELD) as u16 * 40_503 % 65_521 + 1
 }
 
-/// A file of lines, and the best milliseconds here and in Rust.
-struct Timed {
-    file: String,
-    best: [f64; 2],
+/// Whether both programs answer alike.
+pub fn run() -> io::Result<bool> {
+    let timed = timed()?;
+    print(&timed);
+    let equal = timed.iter().all(|case| case.differences == 0);
+    println!("\nreplies {}", if equal { "equal" } else { "differ" });
+    Ok(equal)
 }
 
-/// Whether both programs answer alike. Rounds go through all cases: a busy spell spoils none.
-pub fn run() -> io::Result<bool> {
+/// Both programs on all cases. Rounds go through all: a busy spell spoils none.
+pub fn timed() -> io::Result<Vec<Timed>> {
     let mut random = Random::new(STREAM);
     // One own ship, so that most targets are met as at sea; a prime number of reports.
     let fleet = Fleet((0..1009).map(|_| scenes::chase(&mut random)).collect());
     let mut timed = Vec::new();
     for (place, case) in CASES.iter().enumerate() {
-        timed.push(Timed { file: written(place, case, &fleet)?, best: [f64::INFINITY; 2] });
+        timed.push(Timed::new(&format!("frames-{place}"), &text(case, &fleet))?);
     }
-    let mut equal = true;
     for _ in 0..ROUNDS {
-        for case in &mut timed {
-            let this = env::current_exe()?;
-            let here = once(&playing::program(), &[], &case.file, HERE)?;
-            let rust = once(this.as_os_str(), &["plot"], &case.file, RUST)?;
-            equal &= fs::read(answers(HERE))? == fs::read(answers(RUST))?;
-            case.best = lesser(case.best, [here, rust]);
-        }
+        timed.iter_mut().try_for_each(|case| case.round(&playing::program(), "plot"))?;
     }
-    print(&timed);
-    println!("\nreplies {}", if equal { "equal" } else { "differ" });
-    timed.iter().try_for_each(|case| fs::remove_file(&case.file))?;
-    Ok(equal)
+    Ok(timed)
 }
 
-/// The name of a file with the lines of a case.
-fn written(place: usize, (_, count, line): &Case, fleet: &Fleet) -> io::Result<String> {
+/// The lines of a case.
+fn text((_, count, line): &Case, fleet: &Fleet) -> Vec<u8> {
     let mut text = Vec::new();
     if *count > 0 {
         fleet.begin(&mut text);
@@ -120,21 +111,20 @@ fn written(place: usize, (_, count, line): &Case, fleet: &Fleet) -> io::Result<S
         line(fleet, place, &mut text);
         text.push(b'\n');
     }
-    let file = format!("{FOLDER}/frames-{place}");
-    fs::write(&file, text)?;
-    Ok(file)
+    text
 }
 
 fn print(timed: &[Timed]) {
     println!("seed {SEED:016x}, best of {ROUNDS} rounds\n");
     println!("| lines | count | here, ms | Rust, ms | ratio | here, µs a line | Rust, µs a line |");
     println!("|---|---:|---:|---:|---:|---:|---:|");
-    for ((name, count, _), Timed { best: [here, rust], .. }) in CASES.iter().zip(timed) {
-        let each = |time: &f64| match count {
+    for ((name, count, _), case) in CASES.iter().zip(timed) {
+        let [here, rust] = case.best;
+        let each = |time: f64| match count {
             0 => "-".into(),
             _ => format!("{:.3}", time * 1e3 / *count as f64),
         };
-        let (ratio, ours, theirs) = (here / rust, each(here), each(rust));
+        let (ratio, ours, theirs) = (case.ratio(), each(here), each(rust));
         println!("| {name} | {count} | {here:.1} | {rust:.1} | {ratio:.2} | {ours} | {theirs} |");
     }
 }

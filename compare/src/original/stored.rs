@@ -51,8 +51,8 @@ pub fn write(stdin: &str, stdout: &str) -> io::Result<()> {
     met.add(&script.replies);
     let (lines, bytes, ties) = (script.count(), script.lines.len(), script.ties);
     println!("seed {SEED:016x}, {lines} lines, {bytes} bytes, picks among equals {ties}");
-    let missing = met.print();
-    missing.is_empty().then_some(()).ok_or_else(|| io::Error::other("a number is not met"))
+    met.print();
+    met.missing().is_empty().then_some(()).ok_or_else(|| io::Error::other("a number is not met"))
 }
 
 /// Nothing is a frame yet but a radius, and these are refused.

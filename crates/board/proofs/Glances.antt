@@ -4,16 +4,12 @@ use native.Mathlib.Omega.{arith}
 use mathlib.Core.Bool.{true, false, false≢true}
 use mathlib.Core.List.{List, [], _∷_, map}
 use mathlib.Core.Logic.{_≢_}
-use mathlib.Core.Option.{none}
 use mathlib.Core.Path.{_≡_, refl, sym, ap, _∙_}
-use lib.ListN.{length, take, set, getD, length-set}
-use lib.Seq.{take-at, take-set-lt, getD-take, map-set-same, length-take-le}
+use lib.ListN.{length, take, set, length-set}
+use lib.Seq.{take-at, take-set-lt, map-set-same, length-take-le}
 use Rattle.board.specs.declared.line.Line.{Line}
-use Rattle.board.specs.declared.targets.Held.{Held}
 use Rattle.board.specs.declared.targets.Target.{Target}
 use Rattle.board.specs.declared.targets.Lined.the-variants.{Bare}
-use Rattle.board.specs.declared.targets.Found.the-variants.{There}
-use Rattle.board.specs.declared.targets.Spot.{Spot}
 use Rattle.board.specs.declared.targets.Spot.the-variants.{At}
 use Rattle.board.specs.declared.glance.Setting.{Setting}
 use Rattle.board.specs.declared.call.Coordinates.{Coordinates}
@@ -24,13 +20,13 @@ use Rattle.board.specs.declared.call.Answer.{Answer}
 use Rattle.board.specs.declared.call.Answer.the-variants.{Done, Solved, Refused}
 use Rattle.board.specs.declared.questions.Said.{Said}
 use Rattle.board.specs.declared.questions.Said.the-variants.{Yes, No}
-use Rattle.board.specs.Targets.{find, place, identityOf, identities, atMost64, listed, spotIn, spotFrom, bareTarget, bared}
+use Rattle.board.specs.Targets.{identityOf, identities, atMost64, listed, spotIn, spotFrom, bareTarget}
 use Rattle.board.specs.Call.{vehicle, named}
 use Rattle.board.specs.Questions.{ask, askFix, identityAsked, fixFiniteAsked, fixUnitAsked, speedAsked, askEnds, endsFiniteAsked, endsUnitAsked, circleAsked}
-use Rattle.board.specs.Board.{Plain, answer, after, outcome, accepted, targetsAfter, put, swept, leaves, ownAfter, trackAfter}
+use Rattle.board.specs.Board.{answer, after, outcome, accepted, targetsAfter, put, swept, leaves, ownAfter, trackAfter}
 use Rattle.board.specs.Code.{plain}
 use Rattle.board.specs.History.{accepts}
-use Rattle.board.specs.Glance.{boardOf, Under, Turns, Glanced, Sets}
+use Rattle.board.specs.Glance.{boardOf, Under, Turns, Sets}
 use Rattle.board.proofs.Arrays.{absent, length-map, held-below}
 use Rattle.board.proofs.Slots.{at-most-le, found-at, take-bared}
 use Rattle.board.proofs.Spots.{stands-at}

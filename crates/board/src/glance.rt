@@ -2,7 +2,6 @@
 // in place need not hand them over for a report.
 ghost use mathlib.Core.Path.{_≡_};
 ghost use Rattle.board.specs.Glance as spec;
-ghost use Rattle.board.specs.History.{accepts};
 use crate::board::own_after;
 use crate::board::refuses;
 use crate::board::track_after;

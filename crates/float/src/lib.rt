@@ -1,8 +1,8 @@
 // The float ground: everything above reaches floats through these functions and the language's own operators.
 pub mod bits;
 pub mod degrees;
-pub mod modular;
+mod modular;
 pub mod remainder;
 pub mod root;
 pub mod trig;
-pub mod words;
+mod words;

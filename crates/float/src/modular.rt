@@ -150,7 +150,7 @@ fn leading_rem(digits: u64, k: u64, m: u64) -> u64
 }
 
 // digits * 2^k modulo m. Up to four steps are quickest; past them a short m is first shifted up with the dividend.
-pub fn shifted_rem(digits: u64, k: u64, m: u64) -> u64
+pub(crate) fn shifted_rem(digits: u64, k: u64, m: u64) -> u64
     requires { ⌜ (digits < 2 ^ 53) × (k < 2 ^ 52) × (0 < m) × (m < 2 ^ 53) ⌝ }
     ensures { λ r. ⌜ r ≡ digits * 2 ^ k % m ⌝ }
 {

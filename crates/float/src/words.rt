@@ -7,7 +7,7 @@ use std::num::wrapping_add_u64;
 const HALF: u64 = 0x1_0000_0000;
 
 // The high word of a * b.
-pub fn high_product(a: u64, b: u64) -> u64
+pub(crate) fn high_product(a: u64, b: u64) -> u64
     ensures { λ r. ⌜ r ≡ a * b / 2 ^ 64 ⌝ }
 {
     let a_high = a / HALF;
@@ -20,7 +20,7 @@ pub fn high_product(a: u64, b: u64) -> u64
 }
 
 // The low word of a * b.
-pub fn low_product(a: u64, b: u64) -> u64
+pub(crate) fn low_product(a: u64, b: u64) -> u64
     ensures { λ r. ⌜ r ≡ a * b % 2 ^ 64 ⌝ }
 {
     let a_high = a / HALF;

@@ -1,8 +1,8 @@
 -- A call that a glance answers, in a session that has a board.
 use Prim.Native.Nat.{ℕ}
-use mathlib.Core.Bool.{Bool, true, false}
+use mathlib.Core.Bool.{Bool, true}
 use mathlib.Core.List.{List}
-use mathlib.Core.Path.{_≡_, refl, sym, _∙_}
+use mathlib.Core.Path.{_≡_, refl, sym}
 use lib.ListN.{length}
 use Rattle.board.specs.Targets.{identities, atMost64}
 use Rattle.board.specs.Glance.{settingOf, boardOf, Under, Turns}

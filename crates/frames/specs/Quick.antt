@@ -2,7 +2,6 @@
 use Prim.Native.Nat.{ℕ, _<_}
 use mathlib.Core.Bool.{Bool}
 use mathlib.Core.List.{List, map}
-use mathlib.Core.Path.{_≡_}
 use lib.ListN.{set}
 use Rattle.board.specs.Targets.{bareTarget}
 use Rattle.board.specs.Glance.{boardOf, Under}

@@ -1,7 +1,7 @@
 -- The mean of positions is the mean of their coordinates. Assumes nothing.
 use mathlib.Core.Path.{_≡_, refl, ap}
 use mathlib.Core.List.{List, [], _∷_}
-use Rattle.jord.specs.Positions.{nvectorNew, asVec3}
+use Rattle.jord.specs.Positions.{asVec3}
 use Rattle.jord.specs.declared.positions.NVector.{NVector}
 use Rattle.jord.proofs.Vectors.{new-keeps}
 use Rattle.spherical.specs.Mean.{meanOf, positions, meanPosition, coordinates, AllKept}

@@ -1,6 +1,5 @@
 -- What `interpolated_position` of sphere.rs comes to in the answer: document 01's number 18. Definitions only.
 use Prim.Native.Nat.{ℕ}
-use Rattle.jord.specs.declared.positions.NVector.{NVector}
 use Rattle.spherical.specs.declared.interpolated.Interpolated.{Interpolated}
 use Rattle.spherical.specs.declared.interpolated.Interpolated.the-variants.{Position, Outside}
 

@@ -4,7 +4,6 @@ use mathlib.Core.Bool.{Bool, true, false, cond}
 use lib.Dec.{ltb, eqb}
 use Rattle.jord.specs.Vec3 as vec3
 use Rattle.jord.specs.Positions.{nvectorNew, antipode, eq}
-use Rattle.jord.specs.declared.vec3.Vec3.{Vec3}
 use Rattle.jord.specs.declared.positions.NVector.{NVector}
 use Rattle.spherical.specs.Mean.{plus, along}
 use Rattle.spherical.specs.declared.mean.Mean.{Mean}

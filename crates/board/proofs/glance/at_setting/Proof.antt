@@ -1,7 +1,7 @@
 -- `at_setting` meets its contract. What is refused stays, what is done sweeps.
 use borrow.Author.Needs.{needs}
 use borrow.Author.Tests.{not-true, not-false}
-use mathlib.Core.Path.{_≡_, sym, ap, _∙_}
+use mathlib.Core.Path.{sym, _∙_}
 use Rattle.board.specs.Glance.{boardOf, Glanced}
 use Rattle.board.specs.Code.{plain}
 use Rattle.board.proofs.Glances.{stays, sweeps-under, sweeps-turns}

@@ -1,5 +1,4 @@
 -- `board_of` meets its contract.
-use borrow.Author.Needs.{needs}
 use mathlib.Core.Path.{refl}
 use Rattle.board.specs.Glance.{boardOf}
 use Rattle.board.proofs.glance.board_of.Statement.{statement}

@@ -1,7 +1,7 @@
 -- `locate` meets its contract. The identities of the first n entries are searched.
 use borrow.Author.Needs.{needs}
 use native.Mathlib.Omega.{arith}
-use mathlib.Core.Path.{ap, _∙_}
+use mathlib.Core.Path.{_∙_}
 use Rattle.board.proofs.Slots.{at-most-same}
 use Rattle.board.proofs.Glances.{identities-first, sought}
 use Rattle.board.proofs.targets.locate.Statement.{statement}

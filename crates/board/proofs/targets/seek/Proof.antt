@@ -1,7 +1,7 @@
 -- `seek` finds the place of an identity. The loop has passed the identities below it.
 use Prim.Native.Nat.{_-_, _≤_}
 use native.Mathlib.Omega.{arith}
-use mathlib.Core.Path.{_≡_, sym, ap, _∙_}
+use mathlib.Core.Path.{_≡_}
 use lib.ListN.{length, take, drop}
 use borrow.Author.Needs.{needs}
 use Rattle.board.specs.Targets.{spotIn}

@@ -1,5 +1,5 @@
 -- `far_rem` meets its contract.
-use mathlib.Core.Path.{_≡_, sym, ap, _∙_}
+use mathlib.Core.Path.{sym, ap, _∙_}
 use Prim.Native.Nat.{ℕ, _*_, _%_, _^_, _<_}
 use native.Mathlib.Nat.{lt-of-lt-of-le, le-of-lt, mod-lt}
 use native.Mathlib.Omega.{arith}

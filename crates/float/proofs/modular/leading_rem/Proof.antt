@@ -1,5 +1,5 @@
 -- `leading_rem` meets its contract: a remainder shifted on leaves what the whole shift leaves.
-use mathlib.Core.Path.{_≡_, ap, _∙_}
+use mathlib.Core.Path.{ap, _∙_}
 use Prim.Native.Nat.{ℕ, _-_, _*_, _%_, _^_, _<_}
 use native.Mathlib.Nat.{lt-of-lt-of-le, le-of-lt, mod-lt}
 use native.Mathlib.Omega.{arith}

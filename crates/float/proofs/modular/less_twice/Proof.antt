@@ -1,5 +1,5 @@
 -- `less_twice` meets its contract: what is left of x is below m.
-use mathlib.Core.Path.{_≡_, sym, ap, _∙_}
+use mathlib.Core.Path.{_≡_, sym, _∙_}
 use Prim.Native.Nat.{ℕ, _-_, _*_, _%_, _≤_, _<_}
 use native.Mathlib.Nat.{mod-eq-of-lt, mod-eq-sub-mod}
 use native.Mathlib.Omega.{arith}

@@ -1,7 +1,7 @@
 -- A call, by the glance at the board.
 use borrow.Author.Needs.{needs}
 use borrow.Author.Tests.{not-true, not-false}
-use mathlib.Core.Path.{_≡_, _∙_, subst}
+use mathlib.Core.Path.{_∙_, subst}
 use Rattle.board.specs.Glance.{Glanced}
 use Rattle.frames.specs.Quick.{sessionOf, Quickly}
 use Rattle.frames.specs.Session.{told}

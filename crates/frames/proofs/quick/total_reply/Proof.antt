@@ -1,6 +1,4 @@
 -- The total, or number 1 where there is no board.
-use mathlib.Core.Path.{refl}
-use borrow.Author.Tests.{not-false}
 use Rattle.frames.specs.Quick.{sessionOf}
 use Rattle.frames.specs.Session.{Replied, ifStarted, plainOf}
 use Rattle.board.specs.Glance.{boardOf}

@@ -1,8 +1,5 @@
 -- `answer` meets its contract.
-use mathlib.Core.Path.{_≡_, _∙_}
-use Prim.Native.Nat.{_≤_, _<_}
 use native.Mathlib.Omega.{arith}
-use borrow.Author.Needs.{needs}
 use Rattle.spherical.proofs.TourCases.{answer-empty, answer-antipodal, answer-one, answer-more}
 use Rattle.spherical.proofs.lent.answer.Statement.{statement}
 use Rattle.spherical.proofs.lent.answer.Tie as tie
