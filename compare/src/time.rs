@@ -8,8 +8,7 @@ use std::hint::black_box;
 use std::time::{Duration, Instant};
 
 const INPUTS: usize = 4096;
-const ROUNDS: usize = 200;
-/// A case stops early here, so that the slowest do not hold up the rest.
+/// How long a case goes on: rounds enough that a busy spell spoils none.
 const PATIENCE: Duration = Duration::from_millis(500);
 
 const DEGREES: Draw = Draw::Float(|r| r.within(-360.0, 360.0));
@@ -98,11 +97,8 @@ fn measure<const N: usize, A, B>(
     let inputs = prepared(draw);
     let mut best = [f64::INFINITY; 2];
     let start = Instant::now();
-    for _ in 0..ROUNDS {
+    while start.elapsed() < PATIENCE {
         best = [best[0].min(round(&inputs, &here)), best[1].min(round(&inputs, &rust))];
-        if start.elapsed() > PATIENCE {
-            break;
-        }
     }
     best
 }
