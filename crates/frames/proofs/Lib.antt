@@ -3,5 +3,7 @@ pub mod Sizes
 pub mod Sessions
 pub mod Texts
 pub mod Pieces
+pub mod Spans
 pub mod Turns
+pub mod Feeds
 pub mod Quicks

@@ -15,7 +15,8 @@ use Rattle.frames.specs.declared.frame.Frame.{Frame}
 use Rattle.frames.specs.Frame.{frameOf}
 use Rattle.frames.specs.Session.{next}
 use Rattle.frames.specs.Whole.{newline, onto, linesOf, Asked, asked, askedBy, Text, Output}
-use Rattle.frames.specs.Stream.{kept, Model, fresh, added, stepped, asks, fedState, fedAsks, lastAsks, endAsks, Ran, joined}
+use Rattle.frames.specs.Line.{kept}
+use Rattle.frames.specs.Stream.{Model, fresh, added, stepped, asks, fedState, fedAsks, lastAsks, endAsks, Ran, joined}
 use Rattle.frames.specs.Stream.Ran.{ends, feeds}
 use Rattle.frames.proofs.Lines.{long}
 use Rattle.frames.proofs.Texts.{text-append, text-by}
@@ -54,13 +55,13 @@ ran-text m (xs ∷ pieces) text (feeds t r) =
 pub split {ℓ} : {X : Type ℓ} (a b : ℕ) → (a ≤ b → X) → (b < a → X) → X
 split a b f g = elim (decLe a b) [ yes h ↦ f h | no h ↦ g (omega arith) ]
 
-frame-cut : (q : List ℕ) → frameOf (take kept q) ≡ frameOf q
+pub frame-cut : (q : List ℕ) → frameOf (take kept q) ≡ frameOf q
 frame-cut q =
     split (length q) kept
     (λ h. ap frameOf (take-all kept q h))
     (λ h. long (take kept q) (rw (length-take-le kept q (omega arith)) (omega arith)) ∙ sym (long q (omega arith)))
 
-added-cut : (q : List ℕ) (x : ℕ) → added (take kept q) x ≡ take kept (q ++ (x ∷ []))
+pub added-cut : (q : List ℕ) (x : ℕ) → added (take kept q) x ≡ take kept (q ++ (x ∷ []))
 unfolding added
 added-cut q x =
     split kept (length q)

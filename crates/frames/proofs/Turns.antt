@@ -1,13 +1,14 @@
--- One byte of a piece in `feed`: what the state, the questions and the text come to.
-use Prim.Native.Nat.{ℕ, zero, suc, _+_, _≤_, _<_}
+-- A run of bytes and a newline in a piece: what the state, the questions and the text come to.
+use Prim.Native.Nat.{ℕ, zero, suc, _+_, _-_, _≤_, _<_}
 use mathlib.Core.List.{List, [], _∷_, _++_, append-nil}
+use mathlib.Core.Logic.{_≢_}
 use mathlib.Core.Option.{Option}
 use mathlib.Core.Path.{_≡_, refl, sym, ap, _∙_, subst}
 use native.Mathlib.Numerals.{add-one}
 use native.Mathlib.Omega.{arith}
 use borrow.Author.Tests.{ne-eqb, lt-ltb, le-ltb}
-use lib.ListN.{length, take, set, getD, length-set}
-use lib.Seq.{take-all, take-suc, take-suc-set, length-take-le}
+use lib.ListN.{length, take, drop, set, getD, length-drop}
+use lib.Seq.{take-all, take-suc, take-add, length-take-le, getD-take, getD-drop, append-snoc}
 use Rattle.board.specs.Board.{Plain}
 use Rattle.board.specs.Glance.{settingOf, boardOf}
 use Rattle.board.specs.declared.glance.Setting.{Setting}
@@ -24,8 +25,9 @@ use Rattle.frames.specs.Quick.{sessionOf}
 use Rattle.frames.specs.Reply.{replyDigits}
 use Rattle.frames.specs.Session.{next, plainOf, Stepping}
 use Rattle.frames.specs.Whole.{newline, Asked, asked, Text}
-use Rattle.frames.specs.Stream.{kept, room, least, Model, added, stepped, asks, fedState, fedAsks, lastAsks, endAsks, view, PutLine, Answering, Feeding, Finishing}
-use Rattle.frames.proofs.Pieces.{split, state-append, asks-append}
+use Rattle.frames.specs.Line.{kept, least, NoNewline, part, Passes, EndsAt, Joined}
+use Rattle.frames.specs.Stream.{room, Model, added, stepped, asks, fedState, fedAsks, lastAsks, endAsks, view, PutLine, Answering, Feeding, Finishing}
+use Rattle.frames.proofs.Pieces.{split, state-append, asks-append, added-cut, frame-cut}
 use Rattle.frames.proofs.Sizes.{reply-short}
 use Rattle.frames.proofs.Texts.{text-append, text-by, text-none, text-one}
 
@@ -43,63 +45,55 @@ answers-then a t w =
 answers-by : {qs ps : List Asked} {page out : List ℕ} {at : ℕ} → qs ≡ ps → Answers qs page out at → Answers ps page out at
 answers-by e a = record { text = a .text; text-of = text-by e (a .text-of); wrote = a .wrote }
 
-module _ (m : Model) (xs : List ℕ) (i : ℕ) (h : i < length xs) where
-  state-next : fedState m (take (i + 1) xs) ≡ stepped (fedState m (take i xs)) (getD xs i 0)
-  unfolding fedState
-  state-next = rw (add-one i, take-suc xs i 0 h) (state-append m (take i xs) (getD xs i 0 ∷ []))
+-- ---- bytes that are no newline, and a newline
 
-  asks-next : fedAsks m (take (i + 1) xs) ≡ fedAsks m (take i xs) ++ asks (fedState m (take i xs)) (getD xs i 0)
-  unfolding fedAsks
-  asks-next =
-      rw (add-one i, take-suc xs i 0 h)
-      (asks-append m (take i xs) (getD xs i 0 ∷ []) ∙ rw (append-nil (asks (fedState m (take i xs)) (getD xs i 0))))
+-- they are added to the line as far as it is kept, and ask nothing
+module _ (o : Option Plain) where
+  bytes-state : (q p : List ℕ) → ((k : ℕ) → k < length p → getD p k 0 ≢ newline)
+      → fedState (record { board = o; part = take kept q }) p ≡ record { board = o; part = take kept (q ++ p) }
+  unfolding fedState stepped
+  bytes-state q [] h = ap (λ (l : List ℕ). record { board = o; part = take kept l }) (sym (append-nil q))
+  bytes-state q (x ∷ p) h =
+      rw (ne-eqb x newline (h 0 (omega arith)), added-cut q x)
+      (bytes-state (q ++ (x ∷ [])) p (λ k l. h (suc k) (omega arith)) ∙ ap (λ (l : List ℕ). record { board = o; part = take kept l }) (append-snoc q x p))
 
-  module _ (o : Option Plain) (p : List ℕ) (now-at : _≡_ {A = Model} (record { board = o; part = p }) (fedState m (take i xs))) where
-    -- a newline
-    line-state : (o′ : Option Plain) → getD xs i 0 ≡ newline → o′ ≡ next o (frameOf p)
-        → _≡_ {A = Model} (record { board = o′; part = [] }) (fedState m (take (i + 1) xs))
-    unfolding stepped
-    line-state o′ e n = sym (state-next ∙ rw (← now-at, e, n))
+  bytes-asks : (q p : List ℕ) → ((k : ℕ) → k < length p → getD p k 0 ≢ newline)
+      → fedAsks (record { board = o; part = take kept q }) p ≡ []
+  unfolding fedAsks stepped asks
+  bytes-asks q [] h = refl
+  bytes-asks q (x ∷ p) h =
+      rw (ne-eqb x newline (h 0 (omega arith)), added-cut q x) (bytes-asks (q ++ (x ∷ [])) p (λ k l. h (suc k) (omega arith)))
 
-    line-asks : getD xs i 0 ≡ newline
-        → fedAsks m (take i xs) ++ (asked o (frameOf p) ∷ []) ≡ fedAsks m (take (i + 1) xs)
-    unfolding asks
-    line-asks e = sym (asks-next ∙ rw (← now-at, e))
+-- the bytes up to a later place
+module _ (xs : List ℕ) {i e : ℕ} (w : Passes xs i e) where
+  upto : take e xs ≡ take i xs ++ part xs i e
+  upto = let n : i + (e - i) ≡ e = omega (arith, w .from) in ap (λ (k : ℕ). take k xs) (sym n) ∙ take-add i (e - i) xs
 
-    -- any other byte
-    byte-state : (p′ : List ℕ) → (getD xs i 0 ≡ newline → ⊥) → p′ ≡ added p (getD xs i 0)
-        → _≡_ {A = Model} (record { board = o; part = p′ }) (fedState m (take (i + 1) xs))
-    unfolding stepped
-    byte-state p′ e n = sym (state-next ∙ rw (← now-at, ne-eqb (getD xs i 0) newline e, n))
+  clear : (k : ℕ) → k < length (part xs i e) → getD (part xs i e) k 0 ≢ newline
+  clear k l =
+      let n : k < e - i = omega (arith, length-take-le (e - i) (drop i xs) (rw (length-drop i xs) (omega (arith, w .within)))) in
+      rw (getD-take (e - i) (drop i xs) k 0 n, getD-drop i xs k 0) (w .before (i + k) (omega arith) (omega arith))
 
-    byte-asks : (getD xs i 0 ≡ newline → ⊥) → fedAsks m (take i xs) ≡ fedAsks m (take (i + 1) xs)
-    unfolding asks
-    byte-asks e = sym (asks-next ∙ rw (← now-at, ne-eqb (getD xs i 0) newline e) (append-nil (fedAsks m (take i xs))))
-
-  module _ (o : Option Plain) (line : List ℕ) (n : ℕ) (long : length line ≡ kept) (fits : n ≤ kept)
-      (now-at : _≡_ {A = Model} (record { board = o; part = take n line }) (fedState m (take i xs))) where
-    kept-state : (getD xs i 0 ≡ newline → ⊥) → n < kept
-        → _≡_ {A = Model} (record { board = o; part = take (n + 1) (set line n (getD xs i 0)) }) (fedState m (take (i + 1) xs))
-    unfolding added
-    kept-state e k =
-        let l : length (take n line) ≡ n = length-take-le n line (omega arith) in
-        byte-state o (take n line) now-at (take (n + 1) (set line n (getD xs i 0))) e
-        (rw (add-one n, take-suc-set line n (getD xs i 0) (omega arith), l, lt-ltb n kept k))
-
-    lost-state : (getD xs i 0 ≡ newline → ⊥) → kept ≤ n
-        → _≡_ {A = Model} (record { board = o; part = take n line }) (fedState m (take (i + 1) xs))
-    unfolding added
-    lost-state e k =
-        let l : length (take n line) ≡ n = length-take-le n line (omega arith) in
-        byte-state o (take n line) now-at (take n line) e (rw (l, le-ltb n kept k))
-
--- what holds before each byte: the state and the text are those of the bytes passed
-pub record Passed (m : Model) (xs page₀ page : List ℕ) (session : Session) (line : List ℕ) (n at i : ℕ) : Type 0 where
+-- what holds where a line or a part of one has been passed: the state and the text are those of the bytes passed
+pub record Passed (m : Model) (xs page₀ page : List ℕ) (session : Session) (line : List ℕ) (at i : ℕ) : Type 0 where
   pub within : i ≤ length xs
-  pub fits : n ≤ kept
-  pub long : length line ≡ kept
-  pub state : _≡_ {A = Model} (record { board = plainOf session; part = take n line }) (fedState m (take i xs))
+  pub state : _≡_ {A = Model} (record { board = plainOf session; part = take kept line }) (fedState m (take i xs))
   pub answers : Answers (fedAsks m (take i xs)) page₀ page at
+
+-- bytes without a newline passed
+pub passed-bytes : {m : Model} {xs page₀ page line : List ℕ} {s : Session} {at i e : ℕ} → Passed m xs page₀ page s line at i → Passes xs i e
+    → Passed m xs page₀ page s (line ++ part xs i e) at e
+passed-bytes {m} {xs} {page₀} {page} {line} {s} {at} {i} {e} v w =
+    let u = upto xs w in
+    let c = clear xs w in
+    record {
+      within = w .within;
+      state = sym (rw u (state-append m (take i xs) (part xs i e) ∙ rw (← v .state) (bytes-state (plainOf s) line (part xs i e) c)));
+      answers =
+          answers-by
+          (sym (rw u (asks-append m (take i xs) (part xs i e) ∙ rw (← v .state, bytes-asks (plainOf s) line (part xs i e) c) (append-nil _))))
+          (v .answers);
+    }
 
 -- ---- what is kept of a line
 
@@ -111,23 +105,6 @@ clamped line n k l e =
 
 pub least-fits : (n : ℕ) → least n ≤ kept
 least-fits n = split kept n (λ h. rw (le-ltb n kept h) (omega arith)) (λ h. rw (lt-ltb n kept h) (omega arith))
-
--- what `feed` hands back
-pub feeding : {s : Stream} {xs page out line : List ℕ} {session : Session} {k n at i : ℕ} → length (s .line) ≡ kept → k ≡ least (s .n)
-    → Passed (record { board = plainOf (s .session); part = take k (s .line) }) xs page out session line n at i
-    → (i < length xs → (getD xs i 0 ≡ newline) × (length page < at + room))
-    → Feeding s xs page out (record { stream = record { session = session; line = line; n = n }; used = i; next = at })
-feeding {s} {xs} {page} {out} {line} {session} {k} {n} {at} {i} l e v h =
-    let b : _≡_ {A = Model} (record { board = plainOf (s .session); part = take k (s .line) }) (view s) =
-    ap (λ (p : List ℕ). record { board = plainOf (s .session); part = p }) (clamped (s .line) (s .n) k l e) in
-    record {
-      within = v .within;
-      stops = h;
-      state-is = v .state ∙ ap (λ (m : Model). fedState m (take i xs)) b;
-      text = v .answers .text;
-      text-of = text-by (ap (λ (m : Model). fedAsks m (take i xs)) b) (v .answers .text-of);
-      wrote = v .answers .wrote;
-    }
 
 -- ---- the end of the input
 
@@ -166,66 +143,44 @@ answering {s} {f} {page} {out} {at} {n} {r} {q} st e w =
     }
 
 -- a newline passed: the frame of its line answered, by a step or by `answer`
-module _ {m : Model} {xs page₀ page line : List ℕ} {s : Session} {n at i : ℕ} (v : Passed m xs page₀ page s line n at i) (h : i < length xs)
-    (e : getD xs i 0 ≡ newline) {f : Frame} (g : f ≡ frameOf (take n line)) where
+module _ {m : Model} {xs page₀ page line : List ℕ} {s : Session} {at i : ℕ} (v : Passed m xs page₀ page s line at i) (h : i < length xs)
+    (e : getD xs i 0 ≡ newline) {f : Frame} (g : f ≡ frameOf line) where
+  next-bytes : take (i + 1) xs ≡ take i xs ++ (newline ∷ [])
+  next-bytes = rw (add-one i, ← e) (take-suc xs i 0 h)
+
+  asked-frame : frameOf (take kept line) ≡ f
+  asked-frame = frame-cut line ∙ sym g
+
   line-passed : {out u : List ℕ} {next′ : ℕ} (t : Session) → plainOf t ≡ next (plainOf s) f → Text (asked (plainOf s) f ∷ []) u
-      → Wrote page at (length u) u out next′ → Passed m xs page₀ out t line 0 next′ (i + 1)
+      → Wrote page at (length u) u out next′ → Passed m xs page₀ out t [] next′ (i + 1)
+  unfolding fedState stepped fedAsks asks
   line-passed t q k w =
       record {
         within = omega arith;
-        fits = omega arith;
-        long = v .long;
-        state = line-state m xs i h (plainOf s) (take n line) (v .state) (plainOf t) e (q ∙ ap (next (plainOf s)) g);
+        state = sym (rw next-bytes (state-append m (take i xs) (newline ∷ []) ∙ rw (← v .state, asked-frame, q)));
         answers =
             answers-by
-            (ap (λ (x : Frame). fedAsks m (take i xs) ++ (asked (plainOf s) x ∷ [])) g
-            ∙ line-asks m xs i h (plainOf s) (take n line) (v .state) e)
+            (sym (rw next-bytes (asks-append m (take i xs) (newline ∷ []) ∙ rw (← v .state, asked-frame))))
             (answers-then (v .answers) k w);
       }
 
   pub passed-step : {out : List ℕ} {next′ : ℕ} {r : Stepped} → Stepping s f r → PutLine (r .reply) page at out next′
-      → Passed m xs page₀ out (r .session) line 0 next′ (i + 1)
+      → Passed m xs page₀ out (r .session) [] next′ (i + 1)
   passed-step {r = r} st w = line-passed (r .session) (st .session-is) (text-one (asked (plainOf s) f) (r .reply) (st .replied)) w
 
   pub passed-whole : {out : List ℕ} {r : Answered} → Answering s f page at out r
-      → Passed m xs page₀ out (sessionOf (r .started) (r .setting) (r .targets .entries)) line 0 (r .next) (i + 1)
+      → Passed m xs page₀ out (sessionOf (r .started) (r .setting) (r .targets .entries)) [] (r .next) (i + 1)
   passed-whole a = line-passed _ (a .session-is) (a .text-of) (a .wrote)
-
--- another byte passed: kept, or lost where enough of its line is kept
-module _ {m : Model} {xs page₀ page line : List ℕ} {s : Session} {n at i : ℕ} (v : Passed m xs page₀ page s line n at i) (h : i < length xs)
-    (e : getD xs i 0 ≡ newline → ⊥) where
-  asked-same : Answers (fedAsks m (take (i + 1) xs)) page₀ page at
-  asked-same = answers-by (byte-asks m xs i h (plainOf s) (take n line) (v .state) e) (v .answers)
-
-  pub passed-kept : n < kept → Passed m xs page₀ page s (set line n (getD xs i 0)) (n + 1) at (i + 1)
-  passed-kept k =
-      record {
-        within = omega arith;
-        fits = omega arith;
-        long = simp length-set (v .long);
-        state = kept-state m xs i h (plainOf s) line n (v .long) (v .fits) (v .state) e k;
-        answers = asked-same;
-      }
-
-  pub passed-lost : kept ≤ n → Passed m xs page₀ page s line n at (i + 1)
-  passed-lost k =
-      record {
-        within = omega arith;
-        fits = v .fits;
-        long = v .long;
-        state = lost-state m xs i h (plainOf s) line n (v .long) (v .fits) (v .state) e k;
-        answers = asked-same;
-      }
 
 -- the same of an equal session, and from an equal start
 pub answering-by : {s t : Session} {f : Frame} {page out : List ℕ} {at : ℕ} {r : Answered} → s ≡ t → Answering s f page at out r → Answering t f page at out r
 answering-by {f = f} {page} {out} {at} {r} e a = subst (λ (x : Session). Answering x f page at out r) e a
 
-pub passed-from : {s t : Session} {p xs page₀ page line : List ℕ} {session : Session} {n at i : ℕ} → s ≡ t
-    → Passed (record { board = plainOf s; part = p }) xs page₀ page session line n at i
-    → Passed (record { board = plainOf t; part = p }) xs page₀ page session line n at i
-passed-from {p = p} {xs} {page₀} {page} {line} {session} {n} {at} {i} e v =
-    subst (λ (x : Session). Passed (record { board = plainOf x; part = p }) xs page₀ page session line n at i) e v
+pub passed-from : {s t : Session} {p xs page₀ page line : List ℕ} {session : Session} {at i : ℕ} → s ≡ t
+    → Passed (record { board = plainOf s; part = p }) xs page₀ page session line at i
+    → Passed (record { board = plainOf t; part = p }) xs page₀ page session line at i
+passed-from {p = p} {xs} {page₀} {page} {line} {session} {at} {i} e v =
+    subst (λ (x : Session). Passed (record { board = plainOf x; part = p }) xs page₀ page session line at i) e v
 
 -- ---- what `finish` hands back
 

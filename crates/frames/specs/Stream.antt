@@ -1,8 +1,9 @@
 -- The input in pieces: what is kept between two pieces, and what a piece is answered. Definitions only.
 use Prim.Native.Nat.{ℕ, _+_, _≤_, _<_}
-use mathlib.Core.Bool.{cond}
+use mathlib.Core.Bool.{Bool, true, cond}
 use mathlib.Core.List.{List, [], _∷_, _++_}
 use mathlib.Core.Option.{Option, none}
+use mathlib.Core.Logic.{_≢_}
 use mathlib.Core.Path.{_≡_}
 use lib.Dec.{eqb, ltb}
 use lib.ListN.{length, take, getD}
@@ -14,23 +15,20 @@ use Rattle.frames.specs.declared.session.Session.{Session}
 use Rattle.frames.specs.declared.stream.Answered.{Answered}
 use Rattle.frames.specs.declared.stream.Fed.{Fed}
 use Rattle.frames.specs.declared.stream.Stream.{Stream}
-use Rattle.frames.specs.Frame.{frameOf, longest}
+use Rattle.frames.specs.Frame.{frameOf}
+use Rattle.frames.specs.Line.{kept, least}
 use Rattle.frames.specs.Reply.{replyDigits, longestReply}
 use Rattle.frames.specs.Quick.{sessionOf}
 use Rattle.frames.specs.Session.{next, plainOf}
 use Rattle.frames.specs.Whole.{newline, Asked, asked, Text}
 
--- how many bytes of a line are kept: one more than the longest frame has, so that a longer line is no frame
-abbrev pub kept : ℕ
-kept = longest + 1
-
 -- the room that any reply fits, its newline with it
 abbrev pub room : ℕ
 room = longestReply + 1
 
--- the lesser of n and what is kept
-abbrev pub least : ℕ → ℕ
-least n = cond (ltb n kept) n kept
+-- what comes next waits: a line that does not end in the piece, or a reply that might not fit what is left of the page
+unfoldable pub waits : ℕ → ℕ → ℕ → Bool
+waits e n left = cond (ltb e n) (ltb left room) true
 
 -- ---- what is kept between two pieces
 
@@ -106,6 +104,15 @@ pub record Answering (s : Session) (f : Frame) (page : List ℕ) (at : ℕ) (out
 pub record Feeding (s : Stream) (xs page out : List ℕ) (r : Fed) : Type 0 where
   pub within : r .used ≤ length xs
   pub stops : r .used < length xs → (getD xs (r .used) 0 ≡ newline) × (length page < r .next + room)
+  pub state-is : view (r .stream) ≡ fedState (view s) (take (r .used) xs)
+  pub text : List ℕ
+  pub text-of : Text (fedAsks (view s) (take (r .used) xs)) text
+  pub wrote : Wrote page 0 (length text) text out (r .next)
+
+-- the same of the line that has begun alone: where it is not yet answered the piece is used up, or its newline waits for room
+pub record GoingOn (s : Stream) (xs page out : List ℕ) (r : Fed) : Type 0 where
+  pub within : r .used ≤ length xs
+  pub stops : r .stream .n ≢ 0 → r .used < length xs → (getD xs (r .used) 0 ≡ newline) × (length page < r .next + room)
   pub state-is : view (r .stream) ≡ fedState (view s) (take (r .used) xs)
   pub text : List ℕ
   pub text-of : Text (fedAsks (view s) (take (r .used) xs)) text

@@ -1,14 +1,28 @@
 // The frame that a line is.
 ghost use mathlib.Core.Path.{_≡_};
 ghost use Prim.Native.Nat.{_≤_};
-ghost use Rattle.hex.specs.Hex.{hexAt};
+ghost use mathlib.Core.Bool.{true};
+ghost use Rattle.hex.specs.Hex.{hexAt, allDigits};
 ghost use Rattle.frames.specs.Frame as spec;
 use board::call::Call;
 use board::call::Coordinates;
 use board::call::Fix;
 
-// The digits of the longest frame, a track.
+// The digits of each kind of frame: 00, 01, 03.
+pub const FRESH: usize = 18;
+
+pub const REPORT: usize = 86;
+
+pub const OWN_SHIP: usize = 82;
+
+// Those of the longest, 04, a track.
 pub const LONGEST: usize = 98;
+
+// Those of a frame that names a target alone, 02 and 05.
+pub const NAMED: usize = 6;
+
+// Those of a kind alone, 06, 07 and 08.
+pub const ASKED: usize = 2;
 
 // A frame by value.
 pub enum Frame {
@@ -25,6 +39,7 @@ pub enum Frame {
 
 // The float of the 16 digits of s from at on; every NaN pattern is a NaN.
 fn float_at(s: &[u8], at: usize) -> f64
+    requires { ⌜ allDigits (now s) ≡ true ⌝ }
     ensures { λ r. ⌜ r ≡ spec.floatAt (now (s .entry)) at ⌝ }
 {
     float::bits::from_bits(hex::number_at(s, at, 16))
@@ -32,6 +47,7 @@ fn float_at(s: &[u8], at: usize) -> f64
 
 // The identity in the 4 digits of s past the kind.
 fn identity(s: &[u8]) -> u16
+    requires { ⌜ allDigits (now s) ≡ true ⌝ }
     ensures { λ r. ⌜ r ≡ hexAt (now (s .entry)) 2 4 ⌝ }
 {
     hex::number_at(s, 2, 4) as u16
@@ -39,7 +55,7 @@ fn identity(s: &[u8]) -> u16
 
 // The position in the 48 digits of s from at on.
 fn position_at(s: &[u8], at: usize) -> Coordinates
-    requires { ⌜ at ≤ 50 ⌝ }
+    requires { ⌜ (at ≤ 50) × (allDigits (now s) ≡ true) ⌝ }
     ensures { λ r. ⌜ r ≡ spec.positionAt (now (s .entry)) at ⌝ }
 {
     Coordinates {
@@ -51,7 +67,7 @@ fn position_at(s: &[u8], at: usize) -> Coordinates
 
 // The position, bearing and speed in the 80 digits of s from at on.
 fn fix_at(s: &[u8], at: usize) -> Fix
-    requires { ⌜ at ≤ 50 ⌝ }
+    requires { ⌜ (at ≤ 50) × (allDigits (now s) ≡ true) ⌝ }
     ensures { λ r. ⌜ r ≡ spec.fixAt (now (s .entry)) at ⌝ }
 {
     let position = position_at(s, at);
@@ -64,9 +80,10 @@ fn fix_at(s: &[u8], at: usize) -> Fix
 
 // A frame of kind 00.
 fn fresh_of(s: &[u8]) -> Frame
+    requires { ⌜ allDigits (now s) ≡ true ⌝ }
     ensures { λ r. ⌜ r ≡ spec.framed 0 (now (s .entry)) ⌝ }
 {
-    if s.len() == 18 {
+    if s.len() == FRESH {
         Frame::Fresh(float_at(s, 2))
     } else {
         Frame::NotAFrame
@@ -75,9 +92,10 @@ fn fresh_of(s: &[u8]) -> Frame
 
 // A frame of kind 01.
 fn report_of(s: &[u8]) -> Frame
+    requires { ⌜ allDigits (now s) ≡ true ⌝ }
     ensures { λ r. ⌜ r ≡ spec.framed 1 (now (s .entry)) ⌝ }
 {
-    if s.len() == 86 {
+    if s.len() == REPORT {
         Frame::Told(Call::Report(identity(s), fix_at(s, 6)))
     } else {
         Frame::NotAFrame
@@ -86,9 +104,10 @@ fn report_of(s: &[u8]) -> Frame
 
 // A frame of kind 02.
 fn withdraw_of(s: &[u8]) -> Frame
+    requires { ⌜ allDigits (now s) ≡ true ⌝ }
     ensures { λ r. ⌜ r ≡ spec.framed 2 (now (s .entry)) ⌝ }
 {
-    if s.len() == 6 {
+    if s.len() == NAMED {
         Frame::Told(Call::Withdraw(identity(s)))
     } else {
         Frame::NotAFrame
@@ -97,9 +116,10 @@ fn withdraw_of(s: &[u8]) -> Frame
 
 // A frame of kind 03.
 fn own_ship_of(s: &[u8]) -> Frame
+    requires { ⌜ allDigits (now s) ≡ true ⌝ }
     ensures { λ r. ⌜ r ≡ spec.framed 3 (now (s .entry)) ⌝ }
 {
-    if s.len() == 82 {
+    if s.len() == OWN_SHIP {
         Frame::Told(Call::OwnShip(fix_at(s, 2)))
     } else {
         Frame::NotAFrame
@@ -108,6 +128,7 @@ fn own_ship_of(s: &[u8]) -> Frame
 
 // A frame of kind 04.
 fn track_of(s: &[u8]) -> Frame
+    requires { ⌜ allDigits (now s) ≡ true ⌝ }
     ensures { λ r. ⌜ r ≡ spec.framed 4 (now (s .entry)) ⌝ }
 {
     if s.len() == LONGEST {
@@ -119,9 +140,10 @@ fn track_of(s: &[u8]) -> Frame
 
 // A frame of kind 05.
 fn solve_of(s: &[u8]) -> Frame
+    requires { ⌜ allDigits (now s) ≡ true ⌝ }
     ensures { λ r. ⌜ r ≡ spec.framed 5 (now (s .entry)) ⌝ }
 {
-    if s.len() == 6 {
+    if s.len() == NAMED {
         Frame::Told(Call::Solve(identity(s)))
     } else {
         Frame::NotAFrame
@@ -132,21 +154,19 @@ fn solve_of(s: &[u8]) -> Frame
 fn asked(s: &[u8], frame: Frame) -> Frame
     ensures { λ r. ⌜ r ≡ spec.sized 2 (now (s .entry)) frame ⌝ }
 {
-    if s.len() == 2 {
+    if s.len() == ASKED {
         frame
     } else {
         Frame::NotAFrame
     }
 }
 
-// The frame that a line without its newline is.
-pub fn read(s: &[u8]) -> Frame
+// The frame that a line without its newline is, of which it is known whether it is digits alone.
+pub(crate) fn read_known(s: &[u8], digits: bool) -> Frame
+    requires { ⌜ digits ≡ allDigits (now s) ⌝ }
     ensures { λ r. ⌜ r ≡ spec.frameOf (now (s .entry)) ⌝ }
 {
-    if s.len() > LONGEST {
-        return Frame::NotAFrame;
-    }
-    if !hex::all_digits(s) {
+    if !digits {
         return Frame::NotAFrame;
     }
     let kind = hex::number_at(s, 0, 2);
@@ -162,4 +182,14 @@ pub fn read(s: &[u8]) -> Frame
         8 => asked(s, Frame::Total),
         _ => Frame::NotAFrame,
     }
+}
+
+// The frame that a line without its newline is.
+pub fn read(s: &[u8]) -> Frame
+    ensures { λ r. ⌜ r ≡ spec.frameOf (now (s .entry)) ⌝ }
+{
+    if s.len() > LONGEST {
+        return Frame::NotAFrame;
+    }
+    read_known(s, hex::all_digits(s))
 }

@@ -3,12 +3,19 @@ ghost use mathlib.Core.Path.{_≡_};
 ghost use mathlib.Core.List.{List};
 ghost use Prim.Native.Nat.{ℕ, _+_, _≤_};
 ghost use lib.ListN.{length};
+ghost use Rattle.frames.specs.Line.{least};
 ghost use Rattle.frames.specs.Whole.{Output};
 ghost use Rattle.frames.specs.Quick.{sessionOf};
 ghost use Rattle.frames.specs.Stream as spec;
 use crate::frame::Frame;
-use crate::frame::LONGEST;
 use crate::frame::read;
+use crate::frame::read_known;
+use crate::line::KEPT;
+use crate::line::NEWLINE;
+use crate::line::end_of_line;
+use crate::line::joined;
+use crate::line::kept_of;
+use crate::line::line_at;
 use crate::quick::Quick;
 use crate::quick::look;
 use crate::reply::Reply;
@@ -23,14 +30,8 @@ use board::targets::Targets;
 use board::targets::bared;
 use board::targets::identities;
 
-// How many bytes of a line are kept: one more than the longest frame has, so that a longer line is no frame.
-const KEPT: usize = LONGEST + 1;
-
 // The room that any reply fits, its newline with it.
 const ROOM: usize = crate::reply::LONGEST + 1;
-
-// The byte that ends a line.
-const NEWLINE: u8 = 10;
 
 // The session, and the first n bytes of a line that has begun.
 pub struct Stream {
@@ -107,13 +108,60 @@ fn session_of(started: bool, setting: Setting, entries: [Target; 64]) -> Session
 
 // The lesser of n and what is kept of a line.
 fn kept(n: usize) -> usize
-    ensures { λ r. ⌜ r ≡ spec.least n ⌝ }
+    ensures { λ r. ⌜ r ≡ least n ⌝ }
 {
     if n < KEPT { n } else { KEPT }
 }
 
-// Answers the whole lines of a piece, from the start of the page on, until the piece ends or a reply might not fit.
-pub fn feed(s: Stream, xs: &[u8], page: &mut [u8]) -> Fed
+// Does what comes next wait: a line that does not end in the piece, or a reply that might not fit?
+fn waits(end: usize, length: usize, left: usize) -> bool
+    ensures { λ r. ⌜ r ≡ spec.waits end length left ⌝ }
+{
+    if end < length { left < ROOM } else { true }
+}
+
+// Goes on with a line that has begun: answers it where it ends in the piece and any reply fits the page.
+fn go_on(s: Stream, xs: &[u8], page: &mut [u8]) -> Fed
+    ensures { λ r. ⌜ spec.GoingOn s (now (xs .entry)) (now (page .entry)) (now (page .exit)) r ⌝ }
+{
+    let session = s.session;
+    let begun = s.line;
+    let n = kept(s.n);
+    let end = end_of_line(xs, 0);
+    let part = &xs[..end];
+    let line = joined(begun, n, part);
+    let m = kept_of(n, end);
+    if waits(end, xs.len(), page.len()) {
+        return Fed {
+            stream: Stream {
+                session,
+                line,
+                n: m,
+            },
+            used: end,
+            next: 0,
+        };
+    }
+    let a = answer(session, read(&line[..m]), page, 0);
+    let setting = a.setting;
+    let targets = a.targets;
+    let entries = targets.entries;
+    let after = session_of(a.started, setting, entries);
+    let used = end + 1;
+    Fed {
+        stream: Stream {
+            session: after,
+            line,
+            n: 0,
+        },
+        used,
+        next: a.next,
+    }
+}
+
+// Answers the whole lines of a piece that begins with one.
+fn lines(s: Stream, xs: &[u8], page: &mut [u8]) -> Fed
+    requires { ⌜ s .n ≡ 0 ⌝ }
     ensures { λ r. ⌜ spec.Feeding s (now (xs .entry)) (now (page .entry)) (now (page .exit)) r ⌝ }
 {
     let session = s.session;
@@ -123,58 +171,80 @@ pub fn feed(s: Stream, xs: &[u8], page: &mut [u8]) -> Fed
     let mut setting = setting_of(board);
     let mut entries = targets.entries;
     let mut ids = identities(targets);
-    let mut line = s.line;
-    let mut n = kept(s.n);
     let mut at = 0;
     let mut i = 0;
     while i < xs.len() {
-        let b = xs[i];
-        if b == NEWLINE {
-            if page.len() - at < ROOM {
-                break;
-            }
-            let frame = read(&line[..n]);
-            match look(started, setting, ids, frame) {
-                Quick::Stays(reply) => {
-                    at = put_line(page, at, reply);
-                }
-                Quick::Puts(kind, p, target) => {
-                    entries[p] = target;
-                    at = put_line(page, at, Reply::Done(kind));
-                }
-                Quick::Sweeps(kind, after) => {
-                    setting = after;
-                    entries = bared(entries);
-                    at = put_line(page, at, Reply::Done(kind));
-                }
-                Quick::Unclear => {
-                    let whole = session_of(started, setting, entries);
-                    let a = answer(whole, frame, page, at);
-                    let after = a.setting;
-                    let ts = a.targets;
-                    let es = ts.entries;
-                    started = a.started;
-                    setting = after;
-                    entries = es;
-                    ids = identities(ts);
-                    at = a.next;
-                }
-            }
-            n = 0;
-            i += 1;
-        } else if n < KEPT {
-            line[n] = b;
-            n += 1;
-            i += 1;
-        } else {
-            i += 1;
+        let span = line_at(xs, i);
+        let end = span.end;
+        if waits(end, xs.len(), page.len() - at) {
+            break;
         }
+        let frame = read_known(&xs[i..end], span.digits);
+        match look(started, setting, ids, frame) {
+            Quick::Stays(reply) => {
+                at = put_line(page, at, reply);
+            }
+            Quick::Puts(kind, p, target) => {
+                entries[p] = target;
+                at = put_line(page, at, Reply::Done(kind));
+            }
+            Quick::Sweeps(kind, after) => {
+                setting = after;
+                entries = bared(entries);
+                at = put_line(page, at, Reply::Done(kind));
+            }
+            Quick::Unclear => {
+                let whole = session_of(started, setting, entries);
+                let a = answer(whole, frame, page, at);
+                let after = a.setting;
+                let ts = a.targets;
+                let es = ts.entries;
+                started = a.started;
+                setting = after;
+                entries = es;
+                ids = identities(ts);
+                at = a.next;
+            }
+        }
+        i = end + 1;
     }
+    let end = end_of_line(xs, i);
+    let begun = s.line;
+    let line = joined(begun, 0, &xs[i..end]);
     let session = session_of(started, setting, entries);
     Fed {
-        stream: Stream { session, line, n },
-        used: i,
+        stream: Stream {
+            session,
+            line,
+            n: kept_of(0, end - i),
+        },
+        used: end,
         next: at,
+    }
+}
+
+// Answers the whole lines of a piece, from the start of the page on, until the piece ends or a reply might not fit.
+pub fn feed(s: Stream, xs: &[u8], page: &mut [u8]) -> Fed
+    ensures { λ r. ⌜ spec.Feeding s (now (xs .entry)) (now (page .entry)) (now (page .exit)) r ⌝ }
+{
+    if s.n == 0 {
+        return lines(s, xs, page);
+    }
+    let first = go_on(s, xs, page);
+    let stream = first.stream;
+    if stream.n > 0 {
+        return first;
+    }
+    let i = first.used;
+    let at = first.next;
+    let rest = lines(stream, &xs[i..], &mut page[at..]);
+    let last = rest.stream;
+    let used = i + rest.used;
+    let next = at + rest.next;
+    Fed {
+        stream: last,
+        used,
+        next,
     }
 }
 

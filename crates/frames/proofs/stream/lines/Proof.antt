@@ -1,0 +1,249 @@
+-- Line by line: what stands on the page is the text of the lines passed. A line is answered by a quick look, or by the whole session.
+use borrow.Author.Needs.{needs}
+use mathlib.Core.List.{[]}
+use Prim.Native.Nat.{ℕ, _+_, _-_, _<_, _≤_}
+use mathlib.Core.Logic.{inl, inr}
+use mathlib.Core.Path.{_≡_, refl, sym, ap, _∙_, subst}
+use native.Mathlib.Omega.{arith}
+use lib.ListN.{length, take, drop, getD, length-drop}
+use lib.Seq.{length-take-le}
+use Rattle.board.specs.Glance.{settingOf, Under}
+use Rattle.frames.specs.Line.{least}
+use Rattle.frames.specs.Session.{plainOf}
+use Rattle.frames.specs.Quick.{sessionOf, Quickly}
+use Rattle.frames.specs.Stream.{Model, room}
+use Rattle.frames.specs.Whole.{newline}
+use Rattle.frames.proofs.Feeds.{opening-none, feeding, passed-fresh, ends-same, waits-room, waits-not}
+use Rattle.frames.proofs.Quicks.{session-parts, under-own}
+use Rattle.frames.proofs.Turns.{Passed, passed-bytes, passed-step, passed-whole, answering-by, passed-from}
+use Rattle.frames.proofs.stream.lines.Statement.{statement}
+use Rattle.frames.proofs.stream.lines.Tie as tie
+
+abbrev Inv-loop : tie.InvT-loop
+Inv-loop s xs page₀ started₀ setting₀ entries₀ ids₀ at₀ i₀ page started setting entries ids at i =
+    Under setting ids entries
+    × Passed (record { board = plainOf (sessionOf started₀ setting₀ entries₀); part = [] }) xs page₀ page (sessionOf started setting entries) [] at i
+
+abbrev μ-loop : tie.MeasureT-loop
+μ-loop s xs page₀ started₀ setting₀ entries₀ ids₀ at₀ i₀ page started setting entries ids at i = length xs - i
+
+setting-of-requires : tie.Need-setting-of-requires Inv-loop μ-loop
+setting-of-requires c κs = tt
+
+identities-requires : tie.Need-identities-requires Inv-loop μ-loop
+identities-requires c κs = tt
+
+loop-holds : tie.Need-loop-holds Inv-loop μ-loop
+unfolding settingOf
+loop-holds c =
+    let a = c .before .before .before .before .before .before .before .before .args in (
+      under-own _ (a .s .session .board .targets) _ (c .identities .ensures .1) (rw (c .before .before .setting-of .ensures)) (c .identities .ensures .0),
+      opening-none (a .xs .now) (a .page .now) _,
+    )
+
+line-at-requires : tie.Need-line-at-requires Inv-loop μ-loop
+line-at-requires c κs = c .before .loop .inv .1 .within
+
+sub-waits : tie.Need-sub-waits Inv-loop μ-loop
+sub-waits c = let w = c .before .before .loop .inv .1 .answers .wrote in omega (arith, w .within, w .long)
+
+waits-requires : tie.Need-waits-requires Inv-loop μ-loop
+waits-requires c κs = tt
+
+sub-read-known : tie.Need-sub-read-known Inv-loop μ-loop
+sub-read-known c = c .before .before .line-at .ensures .ends-at .passes .from
+
+part-read-known-start : tie.Need-part-read-known-start Inv-loop μ-loop
+part-read-known-start c = let p = c .before .before .line-at .ensures .ends-at .passes in omega (arith, p .from, p .within)
+
+part-read-known-end : tie.Need-part-read-known-end Inv-loop μ-loop
+part-read-known-end c = let p = c .before .before .line-at .ensures .ends-at .passes in omega (arith, p .from, p .within)
+
+read-known-requires : tie.Need-read-known-requires Inv-loop μ-loop
+read-known-requires c κs = c .before .before .before .line-at .ensures .digits-are
+
+look-requires : tie.Need-look-requires Inv-loop μ-loop
+look-requires c κs = tt
+
+-- a line that does not wait ends in the piece, and any reply to it fits
+goes : (c : tie.Else1 Inv-loop μ-loop) → (c .before .before .line-at .result .end < length (c .before .before .before .before .before .before .before .before .before .before .before .before .before .args .xs .now))
+    × (c .before .before .before .before .loop .at + room ≤ length (c .before .before .before .before .loop .page))
+goes c =
+    let g = waits-not _ _ _ (sym (c .before .waits .ensures) ∙ c .if1 .left) in
+    let w = c .before .before .before .before .loop .inv .1 .answers .wrote in
+    (g .0, omega (arith, g .1, w .within, w .long))
+
+enum-known-reply : tie.Need-enum-known-reply Inv-loop μ-loop
+enum-known-reply c = search needs
+
+put-line-requires : tie.Need-put-line-requires Inv-loop μ-loop
+put-line-requires c κs = goes (c .before .before .before .before .before .before .before) .1
+
+enum-known-kind : tie.Need-enum-known-kind Inv-loop μ-loop
+enum-known-kind c = search needs
+
+-- a place that a quick look gives is one of the entries
+place-below : (c : tie.After-known-told2 Inv-loop μ-loop) → c .before .kind .given .0 .1 .0 < 64
+unfolding Quickly
+place-below c =
+    let l = c .before .before .before .before .before .before .before .before .before .before .loop in
+    subst (Quickly (l .started) (l .setting) (l .ids) (c .before .before .before .before .read-known .result)) (c .before .kind .given .1) (c .before .before .before .look .ensures) (l .entries) (l .inv .0) .0
+
+mul-entries : tie.Need-mul-entries Inv-loop μ-loop
+mul-entries c = omega (arith, place-below c)
+
+array-set-from-entries : tie.Need-array-set-from-entries Inv-loop μ-loop
+array-set-from-entries c = place-below c
+
+put-line-requires-2 : tie.Need-put-line-requires-2 Inv-loop μ-loop
+put-line-requires-2 c κs = goes (c .before .before .before .before .before .before .before) .1
+
+enum-known-kind-2 : tie.Need-enum-known-kind-2 Inv-loop μ-loop
+enum-known-kind-2 c = search needs
+
+bared-requires : tie.Need-bared-requires Inv-loop μ-loop
+bared-requires c κs = tt
+
+put-line-requires-3 : tie.Need-put-line-requires-3 Inv-loop μ-loop
+put-line-requires-3 c κs = goes (c .before .before .before .before .before .before .before .before) .1
+
+enum-told : tie.Need-enum-told Inv-loop μ-loop
+enum-told c = search needs
+
+session-of-requires : tie.Need-session-of-requires Inv-loop μ-loop
+session-of-requires c κs = tt
+
+answer-requires : tie.Need-answer-requires Inv-loop μ-loop
+answer-requires c κs = goes (c .before .before .before .before .before .before .before) .1
+
+identities-requires-2 : tie.Need-identities-requires-2 Inv-loop μ-loop
+identities-requires-2 c κs = tt
+
+add-i : tie.Need-add-i Inv-loop μ-loop
+add-i c = omega (arith, goes (c .before .before .before .before) .0)
+
+loop-less : tie.Need-loop-less Inv-loop μ-loop
+loop-less c = let p = c .before .before .before .before .before .before .line-at .ensures .ends-at .passes in omega (arith, goes (c .before .before .before .before) .0, p .from)
+
+loop-again : tie.Need-loop-again Inv-loop μ-loop
+unfolding Quickly
+loop-again c =
+    let l = c .before .before .before .before .before .before .before .before .loop in
+    let n = c .before .before .before .before .before .before .line-at .ensures .ends-at in
+    let t = goes (c .before .before .before .before) .0 in
+    let e = n .ends t in
+    let f = c .before .before .read-known .ensures in
+    let u = l .inv .0 in
+    let v = passed-bytes (l .inv .1) (n .passes) in
+    let q = Quickly (l .started) (l .setting) (l .ids) (c .before .before .read-known .result) in
+    let k = c .before .look .ensures in
+    elim (c .match .came) [
+      | inl z ↦
+          let h = subst q (z .1 .given .1) k (l .entries) u in
+          rw (z .7, z .8, z .9, z .10, z .11, z .12) (u, passed-step v t e f h (z .4 .ensures))
+      | inr x ↦ elim x [
+        | inl z ↦
+            let h = subst q (z .1 .given .1) k (l .entries) u in
+            rw (z .7, z .8, z .9, z .10, z .11, z .12) (h .1, passed-step v t e f (h .2) (z .4 .ensures))
+        | inr y ↦ elim y [
+          | inl z ↦
+              let h = subst q (z .1 .given .1) k (l .entries) u in
+              rw (z .8, z .9, z .10, z .11, z .12, z .13, z .3 .ensures) (h .0, passed-step v t e f (h .1) (z .5 .ensures))
+          | inr z ↦
+              let a = answering-by (z .2 .ensures) (z .4 .ensures) in
+              let i = z .10 .ensures in
+              rw (z .11, z .12, z .13, z .14, z .15, z .16)
+              (under-own _ _ _ (i .1) (a .counted) (i .0), passed-whole v t e f a)
+        ]
+      ]
+    ]
+
+end-of-line-requires : tie.Need-end-of-line-requires Inv-loop μ-loop
+end-of-line-requires c κs = c .before .loop .inv .1 .within
+
+sub-joined : tie.Need-sub-joined Inv-loop μ-loop
+sub-joined c = c .before .end-of-line .ensures .passes .from
+
+part-joined-start : tie.Need-part-joined-start Inv-loop μ-loop
+part-joined-start c = let p = c .before .end-of-line .ensures .passes in omega (arith, p .from, p .within)
+
+part-joined-end : tie.Need-part-joined-end Inv-loop μ-loop
+part-joined-end c = let p = c .before .end-of-line .ensures .passes in omega (arith, p .from, p .within)
+
+joined-requires : tie.Need-joined-requires Inv-loop μ-loop
+joined-requires c κs = omega arith
+
+session-of-requires-2 : tie.Need-session-of-requires-2 Inv-loop μ-loop
+session-of-requires-2 c κs = tt
+
+sub-kept-of : tie.Need-sub-kept-of Inv-loop μ-loop
+sub-kept-of c = c .before .before .before .before .end-of-line .ensures .passes .from
+
+kept-of-requires : tie.Need-kept-of-requires Inv-loop μ-loop
+kept-of-requires c κs = omega arith
+
+same-length : tie.Need-same-length Inv-loop μ-loop
+same-length c = c .before .before .before .before .before .before .before .loop .inv .1 .answers .wrote .long
+
+returns : tie.Need-returns Inv-loop μ-loop
+returns c =
+    let a = c .before .before .before .before .before .before .before .before .before .before .before .before .before .before .before .before .args in
+    let l = c .before .before .before .before .before .before .before .loop in
+    let e = c .before .before .before .before .before .end-of-line in
+    let v = passed-fresh (a .s) (c .before .before .before .before .before .before .before .before .before .before .before .before .before .before .before .before .pre) (passed-from (session-parts (a .s .session) _ (c .before .before .before .before .before .before .before .before .before .before .setting-of .ensures)) (passed-bytes (l .inv .1) (e .ensures .passes))) in
+    let k : length (take (e .result - l .i) (drop (l .i) (a .xs .now))) ≡ e .result - l .i =
+    length-take-le _ _ (omega (arith, length-drop (l .i) (a .xs .now), e .ensures .passes .within)) in
+    let t = ap (λ (m : ℕ). take m (c .before .before .joined .result)) (c .kept-of .ensures ∙ ap (λ (m : ℕ). least (0 + m)) (sym k)) ∙ c .before .before .joined .ensures .text in
+    let w = l .inv .1 .answers .wrote in
+    let stops : e .result < length (a .xs .now) → (getD (a .xs .now) (e .result) 0 ≡ newline) × (length (a .page .now) < l .at + room) =
+    λ h. elim (c .before .before .before .before .before .before .loop-test .came) [
+      | inl z ↦ let y : ⊥ = omega (arith, e .ensures .passes .from) in absurd y
+      | inr z ↦
+          let d = ends-same (a .xs .now) (e .ensures) (z .1 .ensures .ends-at) in
+          (e .ensures .ends h, omega (arith, waits-room _ _ _ (sym (z .2 .ensures) ∙ z .3 .taken) (omega arith), w .long, w .within))
+    ] in
+    rw (c .before .session-of2 .ensures) (feeding (a .s) _ _ v t stops)
+
+pub lines-spec : {M : Type 1} → statement M
+lines-spec =
+    tie.close
+    (tie.spec
+    Inv-loop
+    μ-loop
+    setting-of-requires
+    identities-requires
+    loop-holds
+    line-at-requires
+    sub-waits
+    waits-requires
+    sub-read-known
+    part-read-known-start
+    part-read-known-end
+    read-known-requires
+    look-requires
+    enum-known-reply
+    put-line-requires
+    enum-known-kind
+    mul-entries
+    array-set-from-entries
+    put-line-requires-2
+    enum-known-kind-2
+    bared-requires
+    put-line-requires-3
+    enum-told
+    session-of-requires
+    answer-requires
+    identities-requires-2
+    add-i
+    loop-less
+    loop-again
+    end-of-line-requires
+    sub-joined
+    part-joined-start
+    part-joined-end
+    joined-requires
+    session-of-requires-2
+    sub-kept-of
+    kept-of-requires
+    same-length
+    returns)
