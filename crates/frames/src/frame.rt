@@ -42,7 +42,7 @@ fn float_at(s: &[u8], at: usize) -> f64
     requires { ⌜ allDigits (now s) ≡ true ⌝ }
     ensures { λ r. ⌜ r ≡ spec.floatAt (now (s .entry)) at ⌝ }
 {
-    float::bits::from_bits(hex::number_at(s, at, 16))
+    float::bits::from_bits(hex::low_bits_at(s, at, 16))
 }
 
 // The identity in the 4 digits of s past the kind.
@@ -50,7 +50,7 @@ fn identity(s: &[u8]) -> u16
     requires { ⌜ allDigits (now s) ≡ true ⌝ }
     ensures { λ r. ⌜ r ≡ hexAt (now (s .entry)) 2 4 ⌝ }
 {
-    hex::number_at(s, 2, 4) as u16
+    hex::low_bits_at(s, 2, 4) as u16
 }
 
 // The position in the 48 digits of s from at on.
@@ -169,7 +169,7 @@ pub(crate) fn read_known(s: &[u8], digits: bool) -> Frame
     if !digits {
         return Frame::NotAFrame;
     }
-    let kind = hex::number_at(s, 0, 2);
+    let kind = hex::low_bits_at(s, 0, 2);
     match kind {
         0 => fresh_of(s),
         1 => report_of(s),

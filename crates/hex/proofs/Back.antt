@@ -1,6 +1,5 @@
 -- What is written is read back: the last n digits of v stand for v modulo 16 to the n.
 use Prim.Native.Nat.{ℕ, zero, suc, _+_, _-_, _/_, _%_, _^_, _<_}
-use mathlib.Core.Bool.{Bool, true, false}
 use mathlib.Core.List.{List, [], _∷_, _++_, append-assoc}
 use mathlib.Core.Path.{_≡_, refl, sym, ap, _∙_}
 use native.Mathlib.Nat.{pow-suc}
@@ -12,13 +11,8 @@ use lib.ListN.{length, take, drop, getD, length-append}
 use lib.Seq.{append-snoc, getD-at, length-take-le}
 use Rattle.hex.specs.Hex.{digitOf, hexAt, byteOf, digits}
 use Rattle.hex.specs.Write.{over, Wrote}
-use Rattle.hex.proofs.Read.{number-below}
+use Rattle.hex.proofs.Read.{by-test, number-below}
 use Rattle.hex.proofs.Write.{length-digits}
-
--- by cases of a test
-by-test : {G : Type 0} (t : Bool) → (t ≡ true → G) → (t ≡ false → G) → G
-by-test true f g = f refl
-by-test false f g = g refl
 
 pub digit-back : (d : ℕ) → d < 16 → digitOf (byteOf d) ≡ d
 digit-back d h =

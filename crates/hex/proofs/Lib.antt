@@ -1,3 +1,4 @@
 pub mod Back
+pub mod Fold
 pub mod Read
 pub mod Write

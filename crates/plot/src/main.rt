@@ -1,7 +1,12 @@
 // Reads frames on standard input and writes the reply to each on standard output, until the input ends or a read or a write fails.
 ghost use mathlib.Core.Path.{_≡_};
-ghost use Rattle.frames.specs.Stream.{view, fedState};
+ghost use Prim.Native.Nat.{_≤_};
+ghost use lib.ListN.{length};
+ghost use Rattle.frames.specs.Stream.{view, fedState, room};
 use frames::stream::Stream;
+
+// How much is read at once. A larger piece than a pipe holds: a stream is handed on by value with each.
+const PIECE: usize = 262_144;
 
 // How to go on.
 const ON: u8 = 0;
@@ -17,14 +22,14 @@ struct Turned {
 }
 
 // Answers a piece of the input, page by page, and writes each page at once.
-fn pour(s: Stream, xs: &[u8]) -> Turned
+fn pour(s: Stream, xs: &[u8], page: &mut [u8]) -> Turned
+    requires { ⌜ room ≤ length (now page) ⌝ }
     ensures { λ r. ⌜ (r .way ≡ 0 → view (r .stream) ≡ fedState (view s) (now (xs .entry))) ⌝ }
 {
     let mut stream = s;
-    let mut page = io::large_buffer();
     let mut i = 0;
     while i < xs.len() {
-        let fed = frames::stream::feed(stream, &xs[i..], &mut page);
+        let fed = frames::stream::feed(stream, &xs[i..], page);
         let next = fed.stream;
         stream = next;
         i += fed.used;
@@ -40,9 +45,10 @@ fn pour(s: Stream, xs: &[u8]) -> Turned
 }
 
 // One read, and the answer to what came.
-fn turn(s: Stream) -> Turned {
-    let mut chunk = io::large_buffer();
-    let got = libc::read(0, &mut chunk);
+fn turn(s: Stream, piece: &mut [u8], page: &mut [u8]) -> Turned
+    requires { ⌜ room ≤ length (now page) ⌝ }
+{
+    let got = libc::read(0, piece);
     if got < 0 {
         return Turned {
             stream: s,
@@ -55,8 +61,8 @@ fn turn(s: Stream) -> Turned {
             way: ENDED,
         };
     }
-    let n = io::count(got, &chunk);
-    pour(s, &chunk[..n])
+    let n = io::count(got, piece);
+    pour(s, &piece[..n], page)
 }
 
 // The end of the input: the reply to a line that has begun.
@@ -69,10 +75,12 @@ fn last(s: Stream) {
 // Each turn takes a byte at least, so 2^64 - 1 turns are more than any input has.
 fn main() {
     let mut stream = frames::stream::begin();
+    let mut piece = [0u8; PIECE];
+    let mut page = io::large_buffer();
     let mut turns = u64::MAX;
     while turns > 0 {
         turns -= 1;
-        let turned = turn(stream);
+        let turned = turn(stream, &mut piece, &mut page);
         let next = turned.stream;
         stream = next;
         let way = turned.way;

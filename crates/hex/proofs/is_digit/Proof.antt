@@ -1,15 +1,9 @@
-use borrow.Author.Tests.{le-leb, lt-leb}
+use Rattle.hex.proofs.Read.{digit-tests}
 use Rattle.hex.proofs.is_digit.Statement.{statement}
 use Rattle.hex.proofs.is_digit.Tie as tie
 
 returns : tie.Need-returns
-returns c = simp (le-leb _ _ (c .if1 .taken))
-
-returns-2 : tie.Need-returns-2
-returns-2 c = simp (lt-leb _ _ (c .before .if1 .left), le-leb _ _ (c .if2 .taken))
-
-returns-3 : tie.Need-returns-3
-returns-3 c = simp (lt-leb _ _ (c .before .if1 .left), lt-leb _ _ (c .if2 .left))
+returns c = digit-tests (c .args .b)
 
 pub is-digit-spec : {M : Type 1} → statement M
-is-digit-spec = tie.close (tie.spec returns returns-2 returns-3)
+is-digit-spec = tie.close (tie.spec returns)

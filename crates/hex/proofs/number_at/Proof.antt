@@ -1,19 +1,17 @@
--- Digits alone are read from the part that they fill, and anything else byte by byte.
-use Prim.Native.Nat.{min}
-use mathlib.Core.Logic.{⊎-elim}
+-- Digits alone are read by their low bits from the part that they fill, and anything else byte by byte.
 use mathlib.Core.Path.{_≡_, sym, ap, _∙_}
 use native.Mathlib.Omega.{arith}
 use Rattle.hex.specs.Hex.{hexAt}
-use Rattle.hex.proofs.Read.{part-length, number-part}
+use Rattle.hex.proofs.Read.{hex-reads, part-length, number-part, lows-digits}
 use borrow.Author.Needs.{needs}
 use Rattle.hex.proofs.number_at.Statement.{statement}
 use Rattle.hex.proofs.number_at.Tie as tie
 
-width-is : (c : tie.Joined1) → c .if1 .width ≡ min (c .before .before .args .n) 16
-width-is c = ⊎-elim (λ w. omega arith) (λ w. omega arith) (c .if1 .came)
+at-most-16-requires : tie.Need-at-most-16-requires
+at-most-16-requires c κs = search needs
 
-sub-if3 : tie.Need-sub-if3
-sub-if3 c = search needs
+sub-if2 : tie.Need-sub-if2
+sub-if2 c = search needs
 
 add-part : tie.Need-add-part
 add-part c = search needs
@@ -30,41 +28,41 @@ part-part-end c = search needs
 all-digits-requires : tie.Need-all-digits-requires
 all-digits-requires c κs = search needs
 
-number-of-digits-requires : tie.Need-number-of-digits-requires
-number-of-digits-requires c κs =
-    let j = c .before .before .before .before .before .before in
-    let a = j .before .before .args in
-    let w = width-is j in
-    let l = part-length (a .s .now) (a .at) (j .if1 .width) (omega arith) in
-    (omega arith, sym (c .before .all-digits .ensures) ∙ c .if4 .taken)
+lows-of-requires : tie.Need-lows-of-requires
+lows-of-requires c κs =
+    let w = c .before .before .before .before .before .at-most-16 in
+    let a = c .before .before .before .before .before .before .before .args in
+    omega (arith, part-length (a .s .now) (a .at) (w .result) (omega arith))
 
 returns : tie.Need-returns
 returns c =
-    let j = c .before .before .before .before .before .before .before in
-    let a = j .before .before .args in
-    c .number-of-digits .ensures ∙ number-part (a .s .now) (a .at) (j .if1 .width) (omega arith) ∙ ap (hexAt (a .s .now) (a .at)) (width-is j)
+    let w = c .before .before .before .before .before .before .at-most-16 in
+    let a = c .before .before .before .before .before .before .before .before .args in
+    c .lows-of .ensures
+    ∙ lows-digits _ 0 _ (sym (c .before .before .all-digits .ensures) ∙ c .before .if3 .taken)
+    ∙ number-part (a .s .now) (a .at) (w .result) (omega arith) hex-reads
+    ∙ ap (hexAt (a .s .now) (a .at)) (w .ensures)
 
 number-of-any-requires : tie.Need-number-of-any-requires
-number-of-any-requires c κs =
-    let w = width-is (c .before) in
-    omega arith
+number-of-any-requires c κs = search needs
 
 returns-2 : tie.Need-returns-2
 returns-2 c =
     let a = c .before .before .before .before .args in
-    c .number-of-any .ensures ∙ ap (hexAt (a .s .now) (a .at)) (width-is (c .before .before))
+    c .number-of-any .ensures ∙ ap (hexAt (a .s .now) (a .at)) (c .before .before .at-most-16 .ensures)
 
 pub number-at-spec : {M : Type 1} → statement M
 number-at-spec =
     tie.close
     (tie.spec
-    sub-if3
+    at-most-16-requires
+    sub-if2
     add-part
     sub-part
     part-part-start
     part-part-end
     all-digits-requires
-    number-of-digits-requires
+    lows-of-requires
     returns
     number-of-any-requires
     returns-2)

@@ -3,7 +3,7 @@ use Prim.Native.Nat.{_-_, _≤_}
 use mathlib.Core.Path.{_≡_, refl, ap, _∙_}
 use native.Mathlib.Omega.{arith}
 use Rattle.hex.specs.Hex.{hexAt}
-use Rattle.hex.proofs.Read.{digit-below, number-room, number-next}
+use Rattle.hex.proofs.Read.{digit-below, hex-reads, room, next}
 use Rattle.hex.proofs.number_of_any.Statement.{statement}
 use Rattle.hex.proofs.number_of_any.Tie as tie
 
@@ -21,7 +21,7 @@ mul-v : tie.Need-mul-v Inv-loop μ-loop
 mul-v c =
     let l = c .before .loop in
     let a = c .before .before .before .args in
-    omega (arith, l .inv .1, number-room (a .s .now) (a .at) (l .i) (omega arith))
+    omega (arith, l .inv .1, room hex-reads (a .s .now) (a .at) (l .i) (omega arith))
 
 byte-at-requires : tie.Need-byte-at-requires Inv-loop μ-loop
 byte-at-requires c κs = tt
@@ -33,7 +33,7 @@ add-v : tie.Need-add-v Inv-loop μ-loop
 add-v c =
     let l = c .before .before .before .loop in
     let a = c .before .before .before .before .before .args in
-    omega (arith, l .inv .1, number-room (a .s .now) (a .at) (l .i) (omega arith), c .digit .ensures, digit-below (c .before .byte-at .result))
+    omega (arith, l .inv .1, room hex-reads (a .s .now) (a .at) (l .i) (omega arith), c .digit .ensures, digit-below (c .before .byte-at .result))
 
 add-i : tie.Need-add-i Inv-loop μ-loop
 add-i c = omega arith
@@ -45,7 +45,7 @@ loop-again : tie.Need-loop-again Inv-loop μ-loop
 loop-again c =
     let l = c .before .before .before .loop in
     let a = c .before .before .before .before .before .args in
-    (omega arith, number-next (a .s .now) (a .at) (l .i) (l .inv .1) (c .before .byte-at .ensures) (c .digit .ensures))
+    (omega arith, next hex-reads (a .s .now) (a .at) (l .i) (l .inv .1) (c .before .byte-at .ensures) (c .digit .ensures))
 
 returns : tie.Need-returns Inv-loop μ-loop
 returns c =

@@ -1,86 +1,75 @@
--- Each turn of the loop uses some of the piece, and what is used makes up the piece.
-use Prim.Native.Nat.{_-_, _≤_, _<_}
-use mathlib.Core.Path.{_≡_, refl, sym, _∙_}
-use native.Mathlib.Omega.{arith}
-use lib.ListN.{length, take}
-use lib.Seq.{length-take-le, take-all}
-use Rattle.frames.specs.Stream.{view, fedState}
-use Rattle.plot.proofs.Progress.{some-used, part-length, poured}
 use Rattle.plot.proofs.pour.Statement.{statement}
 use Rattle.plot.proofs.pour.Tie as tie
+use Rattle.plot.proofs.pour.Reads as reads
+use Rattle.plot.proofs.pour.Lts as lts
+use Rattle.frames.proofs.stream.feed.Reads as feed-reads
+use Rattle.io.proofs.write_all.Reads as write-all-reads
 
 abbrev Inv-loop : tie.InvT-loop
-Inv-loop xs stream₀ page₀ i₀ stream page i =
-    (i ≤ length xs) × (length page ≡ 65536) × (view stream ≡ fedState (view stream₀) (take i xs))
+Inv-loop xs page₀ stream₀ i₀ page stream i = ?
 
 abbrev μ-loop : tie.MeasureT-loop
-μ-loop xs stream₀ page₀ i₀ stream page i = length xs - i
+μ-loop xs page₀ stream₀ i₀ page stream i = ?
 
-large-buffer-requires : tie.Need-large-buffer-requires Inv-loop μ-loop
-large-buffer-requires c κs = tt
-
+-- src/main.rt:31:5
 loop-holds : tie.Need-loop-holds Inv-loop μ-loop
-unfolding fedState
-loop-holds c = (omega arith, sym (c .large-buffer .ensures), refl)
+loop-holds c = ?
 
+-- src/main.rt:32:48
 sub-feed : tie.Need-sub-feed Inv-loop μ-loop
-sub-feed c = omega arith
+sub-feed c = ?
 
+-- src/main.rt:32:48
 part-feed-start : tie.Need-part-feed-start Inv-loop μ-loop
-part-feed-start c = omega arith
+part-feed-start c = ?
 
+-- src/main.rt:32:48
 part-feed-end : tie.Need-part-feed-end Inv-loop μ-loop
-part-feed-end c = omega arith
+part-feed-end c = ?
 
-slice-aggregate-feed : tie.Need-slice-aggregate-feed Inv-loop μ-loop
-slice-aggregate-feed c = sym (c .before .before .before .loop .inv .1)
-
+-- src/main.rt:32:13
 feed-requires : tie.Need-feed-requires Inv-loop μ-loop
-feed-requires c κs = tt
+feed-requires c κs = ?
 
+-- src/main.rt:35:9
 add-i : tie.Need-add-i Inv-loop μ-loop
-add-i c =
-    let e = part-length (c .before .before .before .before .before .before .before .before .before .before .args .xs .now) (c .before .before .before .before .before .before .before .loop .i) (omega arith) in
-    omega (arith, e, c .before .before .before .feed .ensures .within)
+add-i c = ?
 
-array-share-prefix-page : tie.Need-array-share-prefix-page Inv-loop μ-loop
-array-share-prefix-page c =
-    let w = c .before .before .before .feed .ensures .wrote in
-    omega (arith, w .within, w .long)
+-- src/main.rt:37:30
+slice-reshare-prefix-write-all : tie.Need-slice-reshare-prefix-write-all Inv-loop μ-loop
+slice-reshare-prefix-write-all c = ?
 
+-- src/main.rt:37:30
 slice-aggregate-write-all : tie.Need-slice-aggregate-write-all Inv-loop μ-loop
-slice-aggregate-write-all c =
-    let w = c .before .before .before .before .feed .ensures .wrote in
-    sym (length-take-le _ _ (omega (arith, w .within, w .long)))
+slice-aggregate-write-all c = ?
 
+-- src/main.rt:37:13
 write-all-requires : tie.Need-write-all-requires Inv-loop μ-loop
-write-all-requires c κs = tt
+write-all-requires c κs = ?
 
+-- src/main.rt:38:13
+same-length : tie.Need-same-length Inv-loop μ-loop
+same-length c = ?
+
+-- src/main.rt:38:13
 returns : tie.Need-returns Inv-loop μ-loop
-returns c = λ e. let z : ⊥ = omega (arith, e) in absurd z
+returns c = ?
 
+-- src/main.rt:31:5
 loop-less : tie.Need-loop-less Inv-loop μ-loop
-loop-less c =
-    let e = part-length (c .before .before .before .before .before .before .before .before .before .before .before .before .before .args .xs .now) (c .before .before .before .before .before .before .before .before .before .before .loop .i) (omega arith) in
-    let f = c .before .before .before .before .before .before .feed .ensures in
-    let u : 0 < c .before .before .before .before .before .before .feed .result .used = some-used f (omega (arith, e)) (omega (arith, c .before .before .before .before .before .before .before .before .before .before .loop .inv .1)) in
-    omega (arith, e, f .within)
+loop-less c = ?
 
+-- src/main.rt:31:5
 loop-again : tie.Need-loop-again Inv-loop μ-loop
-loop-again c =
-    let l = c .before .before .before .before .before .before .before .before .before .before .loop in
-    let a = c .before .before .before .before .before .before .before .before .before .before .before .before .before .args in
-    let e = part-length (a .xs .now) (l .i) (omega arith) in
-    let f = c .before .before .before .before .before .before .feed .ensures in (
-      omega (arith, e, f .within),
-      f .wrote .long ∙ l .inv .1,
-      f .state-is ∙ poured (view (a .s)) _ (a .xs .now) (l .i) (c .before .before .before .before .before .before .feed .result .used) (l .inv .2) (omega (arith, e, f .within)),
-    )
+loop-again c = ?
 
+-- src/main.rt:25:1
+same-length-2 : tie.Need-same-length-2 Inv-loop μ-loop
+same-length-2 c = ?
+
+-- src/main.rt:25:1
 returns-2 : tie.Need-returns-2 Inv-loop μ-loop
-returns-2 c =
-    let l = c .before .loop in
-    λ e. l .inv .2 ∙ rw (take-all (l .i) (c .before .before .before .before .args .xs .now) (omega arith))
+returns-2 c = ?
 
 pub pour-spec : {M : Type 1} → statement M
 pour-spec =
@@ -88,18 +77,18 @@ pour-spec =
     (tie.spec
     Inv-loop
     μ-loop
-    large-buffer-requires
     loop-holds
     sub-feed
     part-feed-start
     part-feed-end
-    slice-aggregate-feed
     feed-requires
     add-i
-    array-share-prefix-page
+    slice-reshare-prefix-write-all
     slice-aggregate-write-all
     write-all-requires
+    same-length
     returns
     loop-less
     loop-again
+    same-length-2
     returns-2)
