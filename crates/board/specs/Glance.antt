@@ -1,23 +1,30 @@
 -- What a glance at a board tells of a call, without the entries of its targets. Definitions only.
 use Prim.Native.Nat.{ℕ, _<_}
+use mathlib.Core.Bool.{cond}
 use mathlib.Core.List.{List, map}
-use mathlib.Core.Logic.{_≢_}
-use mathlib.Core.Option.{none}
 use mathlib.Core.Path.{_≡_}
 use lib.ListN.{length, take, set}
+use Rattle.board.specs.declared.targets.Lined.the-variants.{Bare}
 use Rattle.board.specs.declared.targets.Target.{Target}
+use Rattle.board.specs.declared.targets.Spot.{Spot}
+use Rattle.board.specs.declared.targets.Spot.the-variants.{At, Before}
 use Rattle.board.specs.declared.state.Board.{Board}
+use Rattle.board.specs.declared.call.Fix.{Fix}
 use Rattle.board.specs.declared.call.Call.{Call}
+use Rattle.board.specs.declared.call.Call.the-variants.{Report, Withdraw, OwnShip, Track, Solve}
 use Rattle.board.specs.declared.call.Answer.{Answer}
-use Rattle.board.specs.declared.call.Answer.the-variants.{Done, Solved}
+use Rattle.board.specs.declared.call.Answer.the-variants.{Done}
 use Rattle.board.specs.declared.glance.Setting.{Setting}
 use Rattle.board.specs.declared.glance.Hint.{Hint}
 use Rattle.board.specs.declared.glance.Hint.the-variants.{Stays, Puts, Sweeps, Unclear}
-use Rattle.board.specs.declared.line.Line.{Line}
-use Rattle.board.specs.Call.{named}
-use Rattle.board.specs.Targets.{atMost64, identityOf, bareTarget, bared}
-use Rattle.board.specs.Board.{Plain, answer, after, swept}
+use Rattle.board.specs.Call.{vehicle}
+use Rattle.board.specs.Questions.{ask, identityAsked, askFix, askEnds}
+use Rattle.board.specs.Targets.{atMost64, identityOf, bareTarget, spotIn}
+use Rattle.board.specs.Board.{answer, after, ownAfter, trackAfter}
 use Rattle.board.specs.Code.{plain}
+use Rattle.board.specs.History.{accepts}
+
+-- ---- a board in its parts
 
 -- all of a board but the entries of its targets
 unfoldable pub settingOf : Board → Setting
@@ -26,6 +33,8 @@ settingOf b = record { radius = b .radius; own = b .own; track = b .track; count
 -- the board of a setting and entries
 unfoldable pub boardOf : Setting → List Target → Board
 boardOf s es = record { radius = s .radius; own = s .own; track = s .track; targets = record { entries = es; count = s .count }; total = s .total }
+
+-- ---- what a hint says of the boards
 
 -- the targets that stand have these identities
 pub record Under (s : Setting) (ids : List ℕ) (es : List Target) : Type 0 where
@@ -45,9 +54,33 @@ Glanced s ids c (Sweeps q) =
     (es : List Target) → Under s ids es → Under q ids (map bareTarget es) × Turns (boardOf s es) c Done (boardOf q (map bareTarget es))
 Glanced s ids c Unclear = Unit {0}
 
--- the call sets an own ship or a track, and this is every board's answer to it, which hands out no line
-pub record Sets (c : Call) (a : Answer) : Type 0 where
-  pub names-none : named c ≡ none
-  pub sweeps : (l : List Target) → swept c l ≡ bared l
-  pub answer-is : (b : Plain) → answer b c ≡ a
-  pub no-line : (l : Line) → a ≢ Solved l
+-- ---- the hint of a call
+
+-- a refused call stays with its answer
+abbrev pub unlessRefused : Answer → Hint → Hint
+unlessRefused a h = cond (accepts a) h (Stays a)
+
+-- a report puts the target, without a line, where its identity stands; where it stands nowhere the entries tell
+abbrev pub putAt : Spot → ℕ → Fix → Hint
+putAt (At p) i f = Puts p (record { identity = i; held = record { report = vehicle f; line = Bare } })
+putAt (Before p) i f = Unclear
+
+-- a report: its questions of identity and fix, then its place among the first n identities, 64 at most
+unfoldable pub atReport : ℕ → List ℕ → ℕ → Fix → Hint
+atReport n ids i f = unlessRefused (ask (identityAsked i) (askFix f Done)) (putAt (spotIn 0 i (take (atMost64 n) ids)) i f)
+
+-- the setting after an accepted own ship or track
+abbrev pub setBy : Call → Setting → Setting
+setBy c s = record { radius = s .radius; own = ownAfter c (s .own); track = trackAfter c (s .track); count = s .count; total = s .total }
+
+-- an own ship or a track with this answer takes every line away
+unfoldable pub atSetting : Setting → Call → Answer → Hint
+atSetting s c a = unlessRefused a (Sweeps (setBy c s))
+
+-- what a call makes of every board of the setting whose targets have the identities
+unfoldable pub glance : Setting → List ℕ → Call → Hint
+glance s ids (Report i f) = atReport (s .count) ids i f
+glance s ids (Withdraw i) = Unclear
+glance s ids (OwnShip f) = atSetting s (OwnShip f) (askFix f Done)
+glance s ids (Track from to) = atSetting s (Track from to) (askEnds from to Done)
+glance s ids (Solve i) = Unclear

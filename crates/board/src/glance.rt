@@ -80,29 +80,27 @@ pub fn board_of(setting: Setting, entries: [Target; 64]) -> Board
 }
 
 // What a call makes of every board of this setting whose targets have these identities.
-pub fn glance(setting: Setting, ids: [u16; 64], call: Call) -> Hint
-    ensures { λ r. ⌜ spec.Glanced setting ids call r ⌝ }
+pub fn glance(setting: Setting, ids: &[u16], call: Call) -> Hint
+    ensures { λ r. ⌜ r ≡ spec.glance setting (now (ids .entry)) call ⌝ }
 {
     match call {
-        Call::Report(identity, fix) => at_report(setting, ids, identity, fix),
+        Call::Report(identity, fix) => at_report(setting.count, ids, identity, fix),
         Call::Withdraw(_) => Hint::Unclear,
-        Call::OwnShip(fix) => at_setting(setting, ids, call, ask_fix(fix, Answer::Done)),
-        Call::Track(start, end) => {
-            at_setting(setting, ids, call, ask_ends(start, end, Answer::Done))
-        }
+        Call::OwnShip(fix) => at_setting(setting, call, ask_fix(fix, Answer::Done)),
+        Call::Track(start, end) => at_setting(setting, call, ask_ends(start, end, Answer::Done)),
         Call::Solve(_) => Hint::Unclear,
     }
 }
 
 // A report of an identity that is held takes its place.
-fn at_report(setting: Setting, ids: [u16; 64], identity: u16, fix: Fix) -> Hint
-    ensures { λ r. ⌜ spec.Glanced setting ids (Call.Report identity fix) r ⌝ }
+fn at_report(count: usize, ids: &[u16], identity: u16, fix: Fix) -> Hint
+    ensures { λ r. ⌜ r ≡ spec.atReport count (now (ids .entry)) identity fix ⌝ }
 {
     let answer = ask(identity_asked(identity), ask_fix(fix, Answer::Done));
     if refuses(answer) {
         return Hint::Stays(answer);
     }
-    match seek(ids, setting.count, identity) {
+    match seek(ids, count, identity) {
         Spot::At(p) => {
             let held = Held {
                 report: vehicle(fix),
@@ -116,9 +114,8 @@ fn at_report(setting: Setting, ids: [u16; 64], identity: u16, fix: Fix) -> Hint
 }
 
 // An own ship or a track that is accepted takes every line away.
-fn at_setting(setting: Setting, ids: [u16; 64], call: Call, answer: Answer) -> Hint
-    requires { ⌜ spec.Sets call answer ⌝ }
-    ensures { λ r. ⌜ spec.Glanced setting ids call r ⌝ }
+fn at_setting(setting: Setting, call: Call, answer: Answer) -> Hint
+    ensures { λ r. ⌜ r ≡ spec.atSetting setting call answer ⌝ }
 {
     if refuses(answer) {
         return Hint::Stays(answer);

@@ -172,14 +172,16 @@ fn locate(entries: [Target; 64], n: usize, identity: u16) -> Spot
     requires { ⌜ n ≤ 64 ⌝ }
     ensures { λ r. ⌜ (r ≡ spec.spotFrom 0 identity (take n entries)) × (length entries ≡ 64) ⌝ }
 {
-    seek(identities_of(entries, n), n, identity)
+    let ids = identities_of(entries, n);
+    seek(&ids[..], n, identity)
 }
 
 // Where an identity stands among the first of these, at most 64, or before which it would.
-pub fn seek(ids: [u16; 64], count: usize, identity: u16) -> Spot
-    ensures { λ r. ⌜ r ≡ spec.spotIn 0 identity (take (spec.atMost64 count) ids) ⌝ }
+pub fn seek(ids: &[u16], count: usize, identity: u16) -> Spot
+    ensures { λ r. ⌜ r ≡ spec.spotIn 0 identity (take (spec.atMost64 count) (now (ids .entry))) ⌝ }
 {
-    let n = least(count);
+    let m = least(count);
+    let n = if m < ids.len() { m } else { ids.len() };
     let mut i = 0;
     while i < n {
         let k = ids[i];

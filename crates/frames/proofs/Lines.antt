@@ -33,6 +33,13 @@ unfolding framed frameOf
 unknown s v d e n0 n1 n2 n3 n4 n5 n6 n7 n8 =
     rw (d, ← e) (simp (ne-eqb v 0 n0, ne-eqb v 1 n1, ne-eqb v 2 n2, ne-eqb v 3 n3, ne-eqb v 4 n4, ne-eqb v 5 n5, ne-eqb v 6 n6, ne-eqb v 7 n7, ne-eqb v 8 n8))
 
+-- fewer digits than a kind has are no frame
+pub short : (s : List ℕ) → length s < 2 → frameOf s ≡ NotAFrame
+unfolding framed frameOf
+short s h =
+    let n : (k : ℕ) → 1 < k → eqb (length s) k ≡ false = λ k g. ne-eqb (length s) k (λ e. omega arith) in
+    simp (n 18 (omega arith), n 86 (omega arith), n 6 (omega arith), n 82 (omega arith), n 98 (omega arith), n 2 (omega arith), same)
+
 -- more digits than the longest frame has are no frame
 pub long : (s : List ℕ) → longest < length s → frameOf s ≡ NotAFrame
 unfolding framed frameOf

@@ -1,32 +1,30 @@
--- A call that a glance answers, in a session that has a board.
+-- What a quick look tells holds of every session of the setting (`quickly`), and the parts of a session.
 use Prim.Native.Nat.{ℕ}
-use mathlib.Core.Bool.{Bool, true}
+use mathlib.Core.Bool.{Bool, true, false}
 use mathlib.Core.List.{List}
-use mathlib.Core.Path.{_≡_, refl, sym}
+use mathlib.Core.Path.{_≡_, refl, sym, ap, _∙_}
 use lib.ListN.{length}
 use Rattle.board.specs.Targets.{identities, atMost64}
-use Rattle.board.specs.Glance.{settingOf, boardOf, Under, Turns}
-use Rattle.board.proofs.Glances.{identities-first}
+use Rattle.board.specs.Code.{plain}
+use Rattle.board.specs.Glance.{settingOf, boardOf, Under, Turns, Glanced, glance}
+use Rattle.board.proofs.Glances.{identities-first, length-identities, glanced}
 use Rattle.board.proofs.Slots.{at-most-le}
 use Rattle.board.specs.declared.targets.Targets.{Targets}
 use Rattle.frames.specs.declared.session.Session.{Session}
 use Rattle.board.specs.declared.call.Answer.{Answer}
+use Rattle.board.specs.declared.call.Answer.the-variants.{Done}
 use Rattle.board.specs.declared.call.Call.{Call}
 use Rattle.board.specs.declared.glance.Setting.{Setting}
+use Rattle.board.specs.declared.glance.Hint.{Hint}
+use Rattle.board.specs.declared.glance.Hint.the-variants as hint
 use Rattle.board.specs.declared.targets.Target.{Target}
+use Rattle.frames.specs.declared.frame.Frame.{Frame}
 use Rattle.frames.specs.declared.frame.Frame.the-variants as frame
-use Rattle.frames.specs.declared.reply.Reply.{Reply}
-use Rattle.frames.specs.Quick.{sessionOf}
-use Rattle.frames.specs.Session.{kindOf, told, Stepping}
-use Rattle.frames.proofs.Sessions.{heard}
+use Rattle.frames.specs.Quick.{sessionOf, Quickly, totalReply, hinted, atCall, look}
+use Rattle.frames.specs.Session.{plainOf, kindOf, told, ifStarted, Replied, Stepping}
+use Rattle.frames.proofs.Sessions.{heard, not-heard, total-asked, no-frame}
 
-pub turned : (b : Bool) (s q : Setting) (es fs : List Target) (c : Call) (a : Answer) (y : Reply) → b ≡ true → y ≡ told (kindOf c) a
-    → Turns (boardOf s es) c a (boardOf q fs)
-    → Stepping (sessionOf b s es) (frame.Told c) (record { session = sessionOf b q fs; reply = y })
-unfolding sessionOf
-turned b s q es fs c a y on e t =
-    rw on (heard (record { started = true; board = boardOf s es }) c {r = record { board = boardOf q fs; answer = a }} {k = kindOf c} {y = y}
-    refl (sym (t .answers), sym (t .leaves)) refl e)
+-- ---- the parts of a session
 
 -- a session is that of its parts
 pub session-parts : (s : Session) (q : Setting) → q ≡ settingOf (s .board) → sessionOf (s .started) q (s .board .targets .entries) ≡ s
@@ -38,3 +36,49 @@ pub under-own : (q : Setting) (ts : Targets) (ids : List ℕ) → length (ts .en
     → ids ≡ identities (ts .entries) (atMost64 (ts .count)) → Under q ids (ts .entries)
 under-own q ts ids l k e =
     record { long = l; same = rw (e, ← k) (identities-first (ts .entries) (atMost64 (ts .count)) l (at-most-le (ts .count))) }
+
+pub ids-long : (ts : Targets) (ids : List ℕ) → length (ts .entries) ≡ 64 → ids ≡ identities (ts .entries) (atMost64 (ts .count)) → length ids ≡ 64
+ids-long ts ids l e = ap length e ∙ length-identities (ts .entries) (atMost64 (ts .count)) l (at-most-le (ts .count))
+
+-- ---- what is told of a frame
+
+-- a call that a glance answers, in a session that has a board
+turned : (s q : Setting) (es fs : List Target) (c : Call) (a : Answer) → Turns (boardOf s es) c a (boardOf q fs)
+    → Stepping (sessionOf true s es) (frame.Told c) (record { session = sessionOf true q fs; reply = told (kindOf c) a })
+unfolding sessionOf
+turned s q es fs c a t =
+    heard (record { started = true; board = boardOf s es }) c {r = record { board = boardOf q fs; answer = a }} {k = kindOf c} {y = told (kindOf c) a}
+    refl (sym (t .answers), sym (t .leaves)) refl refl
+
+hinted-right : (s : Setting) (ids : List ℕ) (c : Call) (h : Hint) → Glanced s ids c h → Quickly true s ids (frame.Told c) (hinted (kindOf c) h)
+unfolding Quickly Glanced hinted told
+hinted-right s ids c (hint.Stays a) g = λ es u. turned s s es es c a (g es u)
+hinted-right s ids c (hint.Puts p t) g = λ es u. (g es u .0, g es u .1, turned s s es _ c Done (g es u .2))
+hinted-right s ids c (hint.Sweeps q) g = λ es u. (g es u .0, turned s q es _ c Done (g es u .1))
+hinted-right s ids c hint.Unclear g = tt
+
+call-right : (b : Bool) (s : Setting) (ids : List ℕ) (c : Call) → Quickly b s ids (frame.Told c) (atCall b s ids c)
+unfolding Quickly atCall sessionOf
+call-right true s ids c = hinted-right s ids c (glance s ids c) (glanced s ids c)
+call-right false s ids c = λ es u. not-heard (sessionOf false s es) c refl
+
+total-right : (b : Bool) (s : Setting) (es : List Target) → Replied (plainOf (sessionOf b s es)) frame.Total (totalReply b s)
+unfolding Replied plainOf sessionOf ifStarted boardOf plain
+total-right true s es = refl
+total-right false s es = refl
+
+-- what a quick look tells is right of every session of the setting whose targets have the identities
+pub quickly : (b : Bool) (s : Setting) (ids : List ℕ) (f : Frame) → Quickly b s ids f (look b s ids f)
+unfolding Quickly look
+quickly b s ids (frame.Fresh r) = tt
+quickly b s ids (frame.Told c) = call-right b s ids c
+quickly b s ids frame.Mean = tt
+quickly b s ids frame.Pick = tt
+quickly b s ids frame.Total = λ es u. total-asked (sessionOf b s es) refl (total-right b s es)
+quickly b s ids frame.NotAFrame = λ es u. no-frame (sessionOf b s es) refl
+
+-- a call of a session that has a board, by the glance's hint
+pub call-goes : (b : Bool) (s : Setting) (ids : List ℕ) (c : Call) (k : ℕ) (g h : Hint) → b ≡ true → k ≡ kindOf c → g ≡ glance s ids c → g ≡ h
+    → hinted k h ≡ atCall b s ids c
+unfolding atCall
+call-goes b s ids c k g h on e f t = rw (on, ← t, f, e)

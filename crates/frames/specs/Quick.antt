@@ -1,11 +1,14 @@
 -- What a quick look at a session tells of a frame, without the entries of its targets. Definitions only.
 use Prim.Native.Nat.{ℕ, _<_}
-use mathlib.Core.Bool.{Bool}
+use mathlib.Core.Bool.{Bool, cond}
 use mathlib.Core.List.{List, map}
 use lib.ListN.{set}
 use Rattle.board.specs.Targets.{bareTarget}
-use Rattle.board.specs.Glance.{boardOf, Under}
+use Rattle.board.specs.Glance.{boardOf, Under, glance}
+use Rattle.board.specs.declared.call.Call.{Call}
 use Rattle.board.specs.declared.glance.Setting.{Setting}
+use Rattle.board.specs.declared.glance.Hint.{Hint}
+use Rattle.board.specs.declared.glance.Hint.the-variants as hint
 use Rattle.board.specs.declared.targets.Target.{Target}
 use Rattle.frames.specs.declared.frame.Frame.{Frame}
 use Rattle.frames.specs.declared.frame.Frame.the-variants as frame
@@ -14,11 +17,13 @@ use Rattle.frames.specs.declared.quick.Quick.the-variants.{Stays, Puts, 
 use Rattle.frames.specs.declared.reply.Reply.{Reply}
 use Rattle.frames.specs.declared.reply.Reply.the-variants as reply
 use Rattle.frames.specs.declared.session.Session.{Session}
-use Rattle.frames.specs.Session.{Replied, Stepping, plainOf}
+use Rattle.frames.specs.Session.{kindOf, told, Stepping}
 
 -- the session of a setting and entries
 unfoldable pub sessionOf : Bool → Setting → List Target → Session
 sessionOf b s es = record { started = b; board = boardOf s es }
+
+-- ---- what it says of the sessions
 
 -- what is told holds of every session of the setting whose targets have the identities; that nothing is told is always right
 unfoldable pub Quickly : Bool → Setting → List ℕ → Frame → Quick → Type 0
@@ -31,6 +36,28 @@ Quickly b s ids f (Sweeps k q) =
     → Under q ids (map bareTarget es) × Stepping (sessionOf b s es) f (record { session = sessionOf b q (map bareTarget es); reply = reply.Done k })
 Quickly b s ids f Unclear = Unit {0}
 
--- the reply to a total is that of every session of the setting
-abbrev pub TotalReplied : Bool → Setting → Reply → Type 0
-TotalReplied b s y = (es : List Target) → Replied (plainOf (sessionOf b s es)) frame.Total y
+-- ---- what is told of a frame
+
+-- the total, or number 1 where there is no board
+abbrev pub totalReply : Bool → Setting → Reply
+totalReply b s = cond b (reply.Total (s .total)) reply.NotAFrame
+
+-- what a glance tells of a call of this kind
+unfoldable pub hinted : ℕ → Hint → Quick
+hinted k (hint.Stays a) = Stays (told k a)
+hinted k (hint.Puts p t) = Puts k p t
+hinted k (hint.Sweeps q) = Sweeps k q
+hinted k hint.Unclear = Unclear
+
+-- a call: number 1 where there is no board
+unfoldable pub atCall : Bool → Setting → List ℕ → Call → Quick
+atCall b s ids c = cond b (hinted (kindOf c) (glance s ids c)) (Stays reply.NotAFrame)
+
+-- what a frame makes of every session of the setting whose targets have the identities; a 00, a mean and a pick need the entries
+unfoldable pub look : Bool → Setting → List ℕ → Frame → Quick
+look b s ids (frame.Fresh r) = Unclear
+look b s ids (frame.Told c) = atCall b s ids c
+look b s ids frame.Mean = Unclear
+look b s ids frame.Pick = Unclear
+look b s ids frame.Total = Stays (totalReply b s)
+look b s ids frame.NotAFrame = Stays reply.NotAFrame

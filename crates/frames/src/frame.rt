@@ -1,6 +1,7 @@
 // The frame that a line is.
 ghost use mathlib.Core.Path.{_≡_};
-ghost use Prim.Native.Nat.{_≤_};
+ghost use Prim.Native.Nat.{_+_, _≤_};
+ghost use lib.ListN.{length};
 ghost use mathlib.Core.Bool.{true};
 ghost use Rattle.hex.specs.Hex.{hexAt, allDigits};
 ghost use Rattle.frames.specs.Frame as spec;
@@ -39,23 +40,23 @@ pub enum Frame {
 
 // The float of the 16 digits of s from at on; every NaN pattern is a NaN.
 fn float_at(s: &[u8], at: usize) -> f64
-    requires { ⌜ allDigits (now s) ≡ true ⌝ }
+    requires { ⌜ (at + 16 ≤ length (now s)) × (allDigits (now s) ≡ true) ⌝ }
     ensures { λ r. ⌜ r ≡ spec.floatAt (now (s .entry)) at ⌝ }
 {
-    float::bits::from_bits(hex::low_bits_at(s, at, 16))
+    float::bits::from_bits(hex::sixteen_at(s, at))
 }
 
 // The identity in the 4 digits of s past the kind.
 fn identity(s: &[u8]) -> u16
-    requires { ⌜ allDigits (now s) ≡ true ⌝ }
+    requires { ⌜ (6 ≤ length (now s)) × (allDigits (now s) ≡ true) ⌝ }
     ensures { λ r. ⌜ r ≡ hexAt (now (s .entry)) 2 4 ⌝ }
 {
-    hex::low_bits_at(s, 2, 4) as u16
+    (hex::two_at(s, 2) * 256 + hex::two_at(s, 4)) as u16
 }
 
 // The position in the 48 digits of s from at on.
 fn position_at(s: &[u8], at: usize) -> Coordinates
-    requires { ⌜ (at ≤ 50) × (allDigits (now s) ≡ true) ⌝ }
+    requires { ⌜ (at + 48 ≤ length (now s)) × (allDigits (now s) ≡ true) ⌝ }
     ensures { λ r. ⌜ r ≡ spec.positionAt (now (s .entry)) at ⌝ }
 {
     Coordinates {
@@ -67,7 +68,7 @@ fn position_at(s: &[u8], at: usize) -> Coordinates
 
 // The position, bearing and speed in the 80 digits of s from at on.
 fn fix_at(s: &[u8], at: usize) -> Fix
-    requires { ⌜ (at ≤ 50) × (allDigits (now s) ≡ true) ⌝ }
+    requires { ⌜ (at + 80 ≤ length (now s)) × (allDigits (now s) ≡ true) ⌝ }
     ensures { λ r. ⌜ r ≡ spec.fixAt (now (s .entry)) at ⌝ }
 {
     let position = position_at(s, at);
@@ -169,7 +170,10 @@ pub(crate) fn read_known(s: &[u8], digits: bool) -> Frame
     if !digits {
         return Frame::NotAFrame;
     }
-    let kind = hex::low_bits_at(s, 0, 2);
+    if s.len() < ASKED {
+        return Frame::NotAFrame;
+    }
+    let kind = hex::two_at(s, 0);
     match kind {
         0 => fresh_of(s),
         1 => report_of(s),

@@ -1,4 +1,5 @@
 // What a frame makes of a session, told from all but the entries of its targets where that is enough.
+ghost use mathlib.Core.Path.{_≡_};
 ghost use Rattle.frames.specs.Quick as spec;
 use crate::frame::Frame;
 use crate::reply::Reply;
@@ -23,8 +24,8 @@ pub enum Quick {
 }
 
 // What a frame makes of every session of this setting whose targets have these identities.
-pub fn look(started: bool, setting: Setting, ids: [u16; 64], frame: Frame) -> Quick
-    ensures { λ r. ⌜ spec.Quickly started setting ids frame r ⌝ }
+pub fn look(started: bool, setting: Setting, ids: &[u16], frame: Frame) -> Quick
+    ensures { λ r. ⌜ r ≡ spec.look started setting (now (ids .entry)) frame ⌝ }
 {
     match frame {
         Frame::Fresh(_) => Quick::Unclear,
@@ -38,7 +39,7 @@ pub fn look(started: bool, setting: Setting, ids: [u16; 64], frame: Frame) -> Qu
 
 // The reply to a total.
 fn total_reply(started: bool, setting: Setting) -> Reply
-    ensures { λ r. ⌜ spec.TotalReplied started setting r ⌝ }
+    ensures { λ r. ⌜ r ≡ spec.totalReply started setting ⌝ }
 {
     if started {
         Reply::Total(setting.total)
@@ -48,8 +49,8 @@ fn total_reply(started: bool, setting: Setting) -> Reply
 }
 
 // What a call makes of them.
-fn at_call(started: bool, setting: Setting, ids: [u16; 64], call: Call) -> Quick
-    ensures { λ r. ⌜ spec.Quickly started setting ids (Frame.Told call) r ⌝ }
+fn at_call(started: bool, setting: Setting, ids: &[u16], call: Call) -> Quick
+    ensures { λ r. ⌜ r ≡ spec.atCall started setting (now (ids .entry)) call ⌝ }
 {
     if !started {
         return Quick::Stays(Reply::NotAFrame);

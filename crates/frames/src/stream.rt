@@ -180,7 +180,7 @@ fn lines(s: Stream, xs: &[u8], page: &mut [u8]) -> Fed
             break;
         }
         let frame = read_known(&xs[i..end], span.digits);
-        match look(started, setting, ids, frame) {
+        match look(started, setting, &ids[..], frame) {
             Quick::Stays(reply) => {
                 at = put_line(page, at, reply);
             }

@@ -157,6 +157,14 @@ blocks-end s k i h =
     let d : allDigits (drop k s) ≡ (m && e) = digits-parts (i - k) (drop k s) in
     ap₂ (λ (u v : Bool). u && v) d t ∙ overlap a m e ∙ ap (λ (u : Bool). a && u) (sym d) ∙ sym (digits-parts k s)
 
+-- where all bytes are digits each is one
+pub digits-each : (s : List ℕ) (i : ℕ) → i < length s → allDigits s ≡ true → isDigit (getD s i 0) ≡ true
+unfolding allDigits
+digits-each [] i h e = let z : ⊥ = omega arith in absurd z
+digits-each (b ∷ s) zero h e = by-cond (isDigit b) (λ p q. p) (λ p q. absurd (true≢false (sym q))) e
+digits-each (b ∷ s) (suc i) h e =
+    by-cond (isDigit b) (λ p q. digits-each s i (omega arith) q) (λ p q. absurd (true≢false (sym q))) e
+
 -- a digit's number from its bits
 low-digit : (b : ℕ) → isDigit b ≡ true → lowOf b ≡ digitOf b
 low-digit b =

@@ -2,12 +2,13 @@
 use borrow.Author.Needs.{needs}
 use borrow.Author.Tests.{not-true, not-false}
 use mathlib.Core.Path.{_≡_, sym, ap, _∙_}
-use Rattle.board.specs.declared.call.Call.the-variants.{Report}
 use Rattle.board.specs.declared.call.Answer.the-variants.{Done}
+use Rattle.board.specs.declared.glance.Hint.the-variants.{Stays}
+use Rattle.board.specs.declared.targets.Spot.{Spot}
 use Rattle.board.specs.Questions.{ask, askFix, identityAsked}
-use Rattle.board.specs.Glance.{Glanced}
+use Rattle.board.specs.Glance.{putAt, atReport}
 use Rattle.board.specs.History.{accepts}
-use Rattle.board.proofs.Glances.{stays, report-stays, report-done, puts-below, puts-under, puts-turns}
+use Rattle.board.proofs.Glances.{refused-stays, report-goes}
 use Rattle.board.proofs.glance.at_report.Statement.{statement}
 use Rattle.board.proofs.glance.at_report.Tie as tie
 
@@ -23,14 +24,15 @@ ask-requires c κs = search needs
 refuses-requires : tie.Need-refuses-requires
 refuses-requires c κs = search needs
 
+-- what the questions of identity and fix come to
+asked : (c : tie.After-ask) → c .ask .result ≡ ask (identityAsked (c .before .before .before .before .args .identity)) (askFix (c .before .before .before .before .args .fix) Done)
+asked c = c .ask .ensures ∙ rw (c .before .ask-fix .ensures, c .before .before .identity-asked .ensures)
+
 returns : tie.Need-returns
-unfolding Glanced
+unfolding atReport
 returns c =
-    let a = c .before .before .before .before .before .args in
-    let q : c .before .before .ask .result ≡ ask (identityAsked (a .identity)) (askFix (a .fix) Done) =
-    c .before .before .ask .ensures ∙ rw (c .before .before .before .ask-fix .ensures, c .before .before .before .before .identity-asked .ensures) in
-    let r = ap accepts (sym q) ∙ not-true _ (sym (c .before .refuses .ensures) ∙ c .if1 .taken) in
-    λ es u. rw q (stays (a .setting) (a .ids) (Report (a .identity) (a .fix)) _ (λ fs. report-stays (a .setting) (a .ids) (a .identity) (a .fix) fs r) r es)
+    let q = asked (c .before .before) in
+    ap Stays q ∙ refused-stays _ _ (ap accepts (sym q) ∙ not-true _ (sym (c .before .refuses .ensures) ∙ c .if1 .taken))
 
 seek-requires : tie.Need-seek-requires
 seek-requires c κs = search needs
@@ -44,26 +46,19 @@ vehicle-requires c κs = search needs
 enum-told : tie.Need-enum-told
 enum-told c = search needs
 
+-- they let it through, and k is the place
+goes : (c : tie.After-seek) (k : Spot) → c .seek .result ≡ k
+    → let a = c .before .before .before .before .before .before .before .args in putAt k (a .identity) (a .fix) ≡ atReport (a .count) (a .ids .now) (a .identity) (a .fix)
+goes c k h =
+    let s = c .before .before in
+    let r = ap accepts (sym (asked (s .before))) ∙ not-false _ (sym (s .refuses .ensures) ∙ c .before .if1 .left) in
+    report-goes _ _ _ _ k (sym (c .seek .ensures) ∙ h) r
+
 returns-2 : tie.Need-returns-2
-unfolding Glanced
-returns-2 c =
-    let at = c .before .before .before .before in
-    let s = at .before .before in
-    let a = s .before .before .before .before .args in
-    let q : s .before .ask .result ≡ ask (identityAsked (a .identity)) (askFix (a .fix) Done) =
-    s .before .ask .ensures ∙ rw (s .before .before .ask-fix .ensures, s .before .before .before .identity-asked .ensures) in
-    let r = ap accepts (sym q) ∙ not-false _ (sym (s .refuses .ensures) ∙ at .before .if1 .left) in
-    let h = sym (at .seek .ensures) ∙ c .before .before .p .given .1 in
-    λ es u. rw (c .vehicle .ensures)
-    ((
-      puts-below (a .setting) (a .ids) (a .identity) _ (a .fix) h es u,
-      puts-under (a .setting) (a .ids) (a .identity) _ (a .fix) h es u,
-      puts-turns (a .setting) (a .ids) (a .identity) _ (a .fix) h es u (report-done (a .identity) (a .fix) r),
-    ))
+returns-2 c = rw (c .vehicle .ensures) (goes (c .before .before .before .before) _ (c .before .before .p .given .1))
 
 returns-3 : tie.Need-returns-3
-unfolding Glanced
-returns-3 c = tt
+returns-3 c = goes (c .before .before) _ (c .enum-told .given .1)
 
 pub at-report-spec : {M : Type 1} → statement M
 at-report-spec =

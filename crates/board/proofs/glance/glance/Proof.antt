@@ -1,7 +1,7 @@
 -- `glance` meets its contract, call by call.
 use borrow.Author.Needs.{needs}
-use Rattle.board.specs.Glance.{Glanced}
-use Rattle.board.proofs.Glances.{sets-own, sets-track}
+use mathlib.Core.Path.{_∙_}
+use Rattle.board.specs.Glance.{glance}
 use Rattle.board.proofs.glance.glance.Statement.{statement}
 use Rattle.board.proofs.glance.glance.Tie as tie
 
@@ -21,7 +21,7 @@ ask-fix-requires : tie.Need-ask-fix-requires
 ask-fix-requires c κs = search needs
 
 at-setting-requires : tie.Need-at-setting-requires
-at-setting-requires c κs = rw (c .ask-fix .ensures) (sets-own _)
+at-setting-requires c κs = search needs
 
 enum-known-call-3 : tie.Need-enum-known-call-3
 enum-known-call-3 c = search needs
@@ -30,27 +30,30 @@ ask-ends-requires : tie.Need-ask-ends-requires
 ask-ends-requires c κs = search needs
 
 at-setting-requires-2 : tie.Need-at-setting-requires-2
-at-setting-requires-2 c κs = rw (c .ask-ends .ensures) (sets-track _ _)
+at-setting-requires-2 c κs = search needs
 
 enum-told-2 : tie.Need-enum-told-2
 enum-told-2 c = search needs
 
 returns : tie.Need-returns
+unfolding glance
 returns c = rw (c .before .before .call .given .1) (c .at-report .ensures)
 
 returns-2 : tie.Need-returns-2
-unfolding Glanced
-returns-2 c = tt
+unfolding glance
+returns-2 c = rw (c .enum-told .given .1)
 
 returns-3 : tie.Need-returns-3
-returns-3 c = rw (c .before .before .before .call2 .given .1) (c .at-setting .ensures)
+unfolding glance
+returns-3 c = c .at-setting .ensures ∙ rw (c .before .before .before .call2 .given .1, c .before .ask-fix .ensures)
 
 returns-4 : tie.Need-returns-4
-returns-4 c = rw (c .before .before .before .call3 .given .1) (c .at-setting2 .ensures)
+unfolding glance
+returns-4 c = c .at-setting2 .ensures ∙ rw (c .before .before .before .call3 .given .1, c .before .ask-ends .ensures)
 
 returns-5 : tie.Need-returns-5
-unfolding Glanced
-returns-5 c = tt
+unfolding glance
+returns-5 c = rw (c .enum-told2 .given .1)
 
 pub glance-spec : {M : Type 1} → statement M
 glance-spec =

@@ -1,23 +1,31 @@
 -- A line is a frame by its digits, its kind and its length.
 use mathlib.Core.Bool.{true}
-use mathlib.Core.Path.{_≡_}
+use mathlib.Core.Path.{_≡_, sym, _∙_}
+use native.Mathlib.Omega.{arith}
 use denote.Ref.{now}
-use Rattle.hex.specs.Hex.{allDigits}
-use Rattle.hex.proofs.Read.{passes, fails}
+use Rattle.hex.specs.Hex.{allDigits, hexAt}
+use Rattle.hex.proofs.Read.{passes, fails, lows-known}
 use Rattle.frames.specs.Frame.{framed}
-use Rattle.frames.proofs.Lines.{no-digits, known, unknown}
+use Rattle.frames.proofs.Lines.{short, no-digits, known, unknown}
 use borrow.Author.Needs.{needs}
 use Rattle.frames.proofs.frame.read_known.Statement.{statement}
 use Rattle.frames.proofs.frame.read_known.Tie as tie
 
-digits-alone : (c : tie.Else1) → allDigits (now (c .before .before .args .s)) ≡ true
-digits-alone c = passes (c .before .before .pre) (c .if1 .left)
+digits-alone : (c : tie.Else2) → allDigits (now (c .before .before .before .args .s)) ≡ true
+digits-alone c = passes (c .before .before .before .pre) (c .before .if1 .left)
+
+-- the kind is that of the line
+kind-is : (c : tie.After-two-at) → c .two-at .result ≡ hexAt (now (c .before .before .before .before .args .s)) 0 2
+kind-is c = c .two-at .ensures ∙ lows-known _ 0 2 (digits-alone (c .before)) (omega arith)
 
 returns : tie.Need-returns
 returns c = no-digits _ (fails (c .before .before .pre) (c .if1 .taken))
 
-number-at-requires : tie.Need-number-at-requires
-number-at-requires c κs = search needs
+returns-2 : tie.Need-returns-2
+returns-2 c = sym (short _ (c .if2 .taken))
+
+two-at-requires : tie.Need-two-at-requires
+two-at-requires c κs = search needs
 
 fresh-of-requires : tie.Need-fresh-of-requires
 fresh-of-requires c κs = digits-alone (c .before .before)
@@ -46,40 +54,40 @@ asked-requires-2 c κs = search needs
 asked-requires-3 : tie.Need-asked-requires-3
 asked-requires-3 c κs = search needs
 
-returns-2 : tie.Need-returns-2
-returns-2 c = known _ _ 0 _ (digits-alone (c .before .before .before)) (c .before .before .number-at .ensures) (c .before .match .keys1) (c .fresh-of .ensures)
-
 returns-3 : tie.Need-returns-3
-returns-3 c = known _ _ 1 _ (digits-alone (c .before .before .before)) (c .before .before .number-at .ensures) (c .before .match .keys2) (c .report-of .ensures)
+returns-3 c = known _ _ 0 _ (digits-alone (c .before .before .before)) (kind-is (c .before .before)) (c .before .match .keys1) (c .fresh-of .ensures)
 
 returns-4 : tie.Need-returns-4
-returns-4 c = known _ _ 2 _ (digits-alone (c .before .before .before)) (c .before .before .number-at .ensures) (c .before .match .keys3) (c .withdraw-of .ensures)
+returns-4 c = known _ _ 1 _ (digits-alone (c .before .before .before)) (kind-is (c .before .before)) (c .before .match .keys2) (c .report-of .ensures)
 
 returns-5 : tie.Need-returns-5
-returns-5 c = known _ _ 3 _ (digits-alone (c .before .before .before)) (c .before .before .number-at .ensures) (c .before .match .keys4) (c .own-ship-of .ensures)
+returns-5 c = known _ _ 2 _ (digits-alone (c .before .before .before)) (kind-is (c .before .before)) (c .before .match .keys3) (c .withdraw-of .ensures)
 
 returns-6 : tie.Need-returns-6
-returns-6 c = known _ _ 4 _ (digits-alone (c .before .before .before)) (c .before .before .number-at .ensures) (c .before .match .keys5) (c .track-of .ensures)
+returns-6 c = known _ _ 3 _ (digits-alone (c .before .before .before)) (kind-is (c .before .before)) (c .before .match .keys4) (c .own-ship-of .ensures)
 
 returns-7 : tie.Need-returns-7
-returns-7 c = known _ _ 5 _ (digits-alone (c .before .before .before)) (c .before .before .number-at .ensures) (c .before .match .keys6) (c .solve-of .ensures)
+returns-7 c = known _ _ 4 _ (digits-alone (c .before .before .before)) (kind-is (c .before .before)) (c .before .match .keys5) (c .track-of .ensures)
 
 returns-8 : tie.Need-returns-8
-unfolding framed
-returns-8 c = known _ _ 6 _ (digits-alone (c .before .before .before)) (c .before .before .number-at .ensures) (c .before .match .keys7) (c .asked .ensures)
+returns-8 c = known _ _ 5 _ (digits-alone (c .before .before .before)) (kind-is (c .before .before)) (c .before .match .keys6) (c .solve-of .ensures)
 
 returns-9 : tie.Need-returns-9
 unfolding framed
-returns-9 c = known _ _ 7 _ (digits-alone (c .before .before .before)) (c .before .before .number-at .ensures) (c .before .match .keys8) (c .asked2 .ensures)
+returns-9 c = known _ _ 6 _ (digits-alone (c .before .before .before)) (kind-is (c .before .before)) (c .before .match .keys7) (c .asked .ensures)
 
 returns-10 : tie.Need-returns-10
 unfolding framed
-returns-10 c = known _ _ 8 _ (digits-alone (c .before .before .before)) (c .before .before .number-at .ensures) (c .before .match .keys9) (c .asked3 .ensures)
+returns-10 c = known _ _ 7 _ (digits-alone (c .before .before .before)) (kind-is (c .before .before)) (c .before .match .keys8) (c .asked2 .ensures)
 
 returns-11 : tie.Need-returns-11
-returns-11 c =
+unfolding framed
+returns-11 c = known _ _ 8 _ (digits-alone (c .before .before .before)) (kind-is (c .before .before)) (c .before .match .keys9) (c .asked3 .ensures)
+
+returns-12 : tie.Need-returns-12
+returns-12 c =
     let n = c .match .rest in
-    unknown _ _ (digits-alone (c .before .before)) (c .before .number-at .ensures)
+    unknown _ _ (digits-alone (c .before .before)) (kind-is (c .before))
     (n .0 .0 .0 .0 .0 .0 .0 .0 .1) (n .0 .0 .0 .0 .0 .0 .0 .1) (n .0 .0 .0 .0 .0 .0 .1) (n .0 .0 .0 .0 .0 .1) (n .0 .0 .0 .0 .1)
     (n .0 .0 .0 .1) (n .0 .0 .1) (n .0 .1) (n .1)
 
@@ -88,7 +96,8 @@ read-known-spec =
     tie.close
     (tie.spec
     returns
-    number-at-requires
+    returns-2
+    two-at-requires
     fresh-of-requires
     report-of-requires
     withdraw-of-requires
@@ -98,7 +107,6 @@ read-known-spec =
     asked-requires
     asked-requires-2
     asked-requires-3
-    returns-2
     returns-3
     returns-4
     returns-5
@@ -107,4 +115,5 @@ read-known-spec =
     returns-8
     returns-9
     returns-10
-    returns-11)
+    returns-11
+    returns-12)

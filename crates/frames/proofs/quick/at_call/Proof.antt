@@ -1,18 +1,19 @@
 -- A call, by the glance at the board.
+use Prim.Native.Nat.{ℕ}
 use borrow.Author.Needs.{needs}
 use borrow.Author.Tests.{not-true, not-false}
-use mathlib.Core.Path.{_∙_, subst}
-use Rattle.board.specs.Glance.{Glanced}
-use Rattle.frames.specs.Quick.{sessionOf, Quickly}
-use Rattle.frames.specs.Session.{told}
-use Rattle.frames.proofs.Sessions.{not-heard}
-use Rattle.frames.proofs.Quicks.{turned}
+use mathlib.Core.Path.{_≡_, refl, ap, _∙_}
+use Rattle.board.specs.declared.glance.Hint.{Hint}
+use Rattle.frames.specs.declared.quick.Quick.the-variants.{Stays}
+use Rattle.frames.specs.Quick.{hinted, atCall}
+use Rattle.frames.specs.Session.{kindOf}
+use Rattle.frames.proofs.Quicks.{call-goes}
 use Rattle.frames.proofs.quick.at_call.Statement.{statement}
 use Rattle.frames.proofs.quick.at_call.Tie as tie
 
 returns : tie.Need-returns
-unfolding Quickly sessionOf
-returns c = λ es u. not-heard _ _ (not-true _ (c .if1 .taken))
+unfolding atCall
+returns c = rw (not-true (c .before .before .args .started) (c .if1 .taken))
 
 glance-requires : tie.Need-glance-requires
 glance-requires c κs = search needs
@@ -41,30 +42,27 @@ kind-of-requires-3 c κs = search needs
 enum-told : tie.Need-enum-told
 enum-told c = search needs
 
+-- the session has a board, and the glance's hint is h
+goes : (c : tie.After-glance) (k : ℕ) (h : Hint) → let a = c .before .before .before .args in
+    k ≡ kindOf (a .call) → c .glance .result ≡ h → hinted k h ≡ atCall (a .started) (a .setting) (a .ids .now) (a .call)
+goes c k h e t = call-goes _ _ _ _ k _ h (not-false _ (c .before .if1 .left)) e (c .glance .ensures) t
+
 returns-2 : tie.Need-returns-2
-unfolding Quickly Glanced
+unfolding hinted
 returns-2 c =
-    let a = c .before .before .before .before .before .before .before .args in
-    let h = subst (Glanced (a .setting) (a .ids) (a .call)) (c .before .before .before .answer .given .1) (c .before .before .before .before .before .glance .ensures) in
-    λ es u. turned (a .started) (a .setting) (a .setting) es es (a .call) _ _ (not-false _ (c .before .before .before .before .before .before .if1 .left)) (c .told .ensures ∙ rw (c .before .kind-of .ensures)) (h es u)
+    ap Stays (c .told .ensures) ∙ goes (c .before .before .before .before .before) _ _ (c .before .kind-of .ensures) (c .before .before .before .answer .given .1)
 
 returns-3 : tie.Need-returns-3
-unfolding Quickly Glanced told
-returns-3 c =
-    let a = c .before .before .before .before .before .before .args in
-    let h = subst (Glanced (a .setting) (a .ids) (a .call)) (c .before .before .p .given .1) (c .before .before .before .before .glance .ensures) in
-    λ es u. (h es u .0, h es u .1, turned (a .started) (a .setting) (a .setting) es _ (a .call) _ _ (not-false _ (c .before .before .before .before .before .if1 .left)) (rw (c .kind-of2 .ensures)) (h es u .2))
+unfolding hinted
+returns-3 c = goes (c .before .before .before .before) _ _ (c .kind-of2 .ensures) (c .before .before .p .given .1)
 
 returns-4 : tie.Need-returns-4
-unfolding Quickly Glanced told
-returns-4 c =
-    let a = c .before .before .before .before .before .before .args in
-    let h = subst (Glanced (a .setting) (a .ids) (a .call)) (c .before .before .after .given .1) (c .before .before .before .before .glance .ensures) in
-    λ es u. (h es u .0, turned (a .started) (a .setting) _ es _ (a .call) _ _ (not-false _ (c .before .before .before .before .before .if1 .left)) (rw (c .kind-of3 .ensures)) (h es u .1))
+unfolding hinted
+returns-4 c = goes (c .before .before .before .before) _ _ (c .kind-of3 .ensures) (c .before .before .after .given .1)
 
 returns-5 : tie.Need-returns-5
-unfolding Quickly
-returns-5 c = tt
+unfolding hinted
+returns-5 c = goes (c .before .before) _ _ refl (c .enum-told .given .1)
 
 pub at-call-spec : {M : Type 1} → statement M
 at-call-spec =

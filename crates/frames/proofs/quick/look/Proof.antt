@@ -1,7 +1,8 @@
 -- A frame, kind by kind.
 use borrow.Author.Needs.{needs}
-use Rattle.frames.specs.Quick.{Quickly}
-use Rattle.frames.proofs.Sessions.{total-asked, no-frame}
+use mathlib.Core.Path.{ap, _∙_}
+use Rattle.frames.specs.declared.quick.Quick.the-variants.{Stays}
+use Rattle.frames.specs.Quick.{look}
 use Rattle.frames.proofs.quick.look.Statement.{statement}
 use Rattle.frames.proofs.quick.look.Tie as tie
 
@@ -30,27 +31,28 @@ enum-told-5 : tie.Need-enum-told-5
 enum-told-5 c = search needs
 
 returns : tie.Need-returns
-unfolding Quickly
-returns c = tt
+unfolding look
+returns c = rw (c .enum-told .given .1)
 
 returns-2 : tie.Need-returns-2
+unfolding look
 returns-2 c = rw (c .before .before .frame .given .1) (c .at-call .ensures)
 
 returns-3 : tie.Need-returns-3
-unfolding Quickly
-returns-3 c = tt
+unfolding look
+returns-3 c = rw (c .enum-told2 .given .1)
 
 returns-4 : tie.Need-returns-4
-unfolding Quickly
-returns-4 c = tt
+unfolding look
+returns-4 c = rw (c .enum-told3 .given .1)
 
 returns-5 : tie.Need-returns-5
-unfolding Quickly
-returns-5 c = λ es u. total-asked _ (c .before .enum-told4 .given .1) (c .total-reply .ensures es)
+unfolding look
+returns-5 c = ap Stays (c .total-reply .ensures) ∙ rw (c .before .enum-told4 .given .1)
 
 returns-6 : tie.Need-returns-6
-unfolding Quickly
-returns-6 c = λ es u. no-frame _ (c .enum-told5 .given .1)
+unfolding look
+returns-6 c = rw (c .enum-told5 .given .1)
 
 pub look-spec : {M : Type 1} → statement M
 look-spec =

@@ -1,6 +1,7 @@
 -- Line by line: what stands on the page is the text of the lines passed. A line is answered by a quick look, or by the whole session.
 use borrow.Author.Needs.{needs}
-use mathlib.Core.List.{[]}
+use mathlib.Core.Bool.{Bool}
+use mathlib.Core.List.{List, []}
 use Prim.Native.Nat.{ℕ, _+_, _-_, _<_, _≤_}
 use mathlib.Core.Logic.{inl, inr}
 use mathlib.Core.Path.{_≡_, refl, sym, ap, _∙_, subst}
@@ -8,13 +9,15 @@ use native.Mathlib.Omega.{arith}
 use lib.ListN.{length, take, drop, getD, length-drop}
 use lib.Seq.{length-take-le}
 use Rattle.board.specs.Glance.{settingOf, Under}
+use Rattle.board.specs.declared.glance.Setting.{Setting}
+use Rattle.board.specs.declared.targets.Target.{Target}
 use Rattle.frames.specs.Line.{least}
 use Rattle.frames.specs.Session.{plainOf}
 use Rattle.frames.specs.Quick.{sessionOf, Quickly}
 use Rattle.frames.specs.Stream.{Model, room}
 use Rattle.frames.specs.Whole.{newline}
 use Rattle.frames.proofs.Feeds.{opening-none, feeding, passed-fresh, ends-same, waits-room, waits-not}
-use Rattle.frames.proofs.Quicks.{session-parts, under-own}
+use Rattle.frames.proofs.Quicks.{session-parts, under-own, ids-long, quickly}
 use Rattle.frames.proofs.Turns.{Passed, passed-bytes, passed-step, passed-whole, answering-by, passed-from}
 use Rattle.frames.proofs.stream.lines.Statement.{statement}
 use Rattle.frames.proofs.stream.lines.Tie as tie
@@ -23,6 +26,7 @@ abbrev Inv-loop : tie.InvT-loop
 Inv-loop s xs page₀ started₀ setting₀ entries₀ ids₀ at₀ i₀ page started setting entries ids at i =
     Under setting ids entries
     × Passed (record { board = plainOf (sessionOf started₀ setting₀ entries₀); part = [] }) xs page₀ page (sessionOf started setting entries) [] at i
+    × (length ids ≡ 64)
 
 abbrev μ-loop : tie.MeasureT-loop
 μ-loop s xs page₀ started₀ setting₀ entries₀ ids₀ at₀ i₀ page started setting entries ids at i = length xs - i
@@ -39,6 +43,7 @@ loop-holds c =
     let a = c .before .before .before .before .before .before .before .before .args in (
       under-own _ (a .s .session .board .targets) _ (c .identities .ensures .1) (rw (c .before .before .setting-of .ensures)) (c .identities .ensures .0),
       opening-none (a .xs .now) (a .page .now) _,
+      ids-long (a .s .session .board .targets) _ (c .identities .ensures .1) (c .identities .ensures .0),
     )
 
 line-at-requires : tie.Need-line-at-requires Inv-loop μ-loop
@@ -62,6 +67,9 @@ part-read-known-end c = let p = c .before .before .line-at .ensures .ends-at .pa
 read-known-requires : tie.Need-read-known-requires Inv-loop μ-loop
 read-known-requires c κs = c .before .before .before .line-at .ensures .digits-are
 
+slice-aggregate-look : tie.Need-slice-aggregate-look Inv-loop μ-loop
+slice-aggregate-look c = sym (c .before .before .before .before .before .before .before .loop .inv .2)
+
 look-requires : tie.Need-look-requires Inv-loop μ-loop
 look-requires c κs = tt
 
@@ -77,17 +85,25 @@ enum-known-reply : tie.Need-enum-known-reply Inv-loop μ-loop
 enum-known-reply c = search needs
 
 put-line-requires : tie.Need-put-line-requires Inv-loop μ-loop
-put-line-requires c κs = goes (c .before .before .before .before .before .before .before) .1
+put-line-requires c κs = goes (c .before .before .before .before .before .before .before .before) .1
 
 enum-known-kind : tie.Need-enum-known-kind Inv-loop μ-loop
 enum-known-kind c = search needs
 
--- a place that a quick look gives is one of the entries
+-- what the quick look tells is right
+looked : (c : tie.After-look Inv-loop μ-loop) → let l = c .before .before .before .before .before .before .before .before .loop in Quickly (l .started) (l .setting) (l .ids) (c .before .before .read-known .result) (c .look .result)
+looked c =
+    let l = c .before .before .before .before .before .before .before .before .loop in
+    let f = c .before .before .read-known .result in
+    subst (Quickly (l .started) (l .setting) (l .ids) f) (sym (c .look .ensures)) (quickly (l .started) (l .setting) (l .ids) f)
+
+-- a place that it gives is one of the entries
 place-below : (c : tie.After-known-told2 Inv-loop μ-loop) → c .before .kind .given .0 .1 .0 < 64
 unfolding Quickly
 place-below c =
-    let l = c .before .before .before .before .before .before .before .before .before .before .loop in
-    subst (Quickly (l .started) (l .setting) (l .ids) (c .before .before .before .before .read-known .result)) (c .before .kind .given .1) (c .before .before .before .look .ensures) (l .entries) (l .inv .0) .0
+    let l = c .before .before .before .before .before .before .before .before .before .before .before .loop in
+    let f = c .before .before .before .before .before .read-known .result in
+    subst (Quickly (l .started) (l .setting) (l .ids) f) (c .before .kind .given .1) (looked (c .before .before .before)) (l .entries) (l .inv .0) .0
 
 mul-entries : tie.Need-mul-entries Inv-loop μ-loop
 mul-entries c = omega (arith, place-below c)
@@ -96,7 +112,7 @@ array-set-from-entries : tie.Need-array-set-from-entries Inv-loop μ-loop
 array-set-from-entries c = place-below c
 
 put-line-requires-2 : tie.Need-put-line-requires-2 Inv-loop μ-loop
-put-line-requires-2 c κs = goes (c .before .before .before .before .before .before .before) .1
+put-line-requires-2 c κs = goes (c .before .before .before .before .before .before .before .before) .1
 
 enum-known-kind-2 : tie.Need-enum-known-kind-2 Inv-loop μ-loop
 enum-known-kind-2 c = search needs
@@ -105,7 +121,7 @@ bared-requires : tie.Need-bared-requires Inv-loop μ-loop
 bared-requires c κs = tt
 
 put-line-requires-3 : tie.Need-put-line-requires-3 Inv-loop μ-loop
-put-line-requires-3 c κs = goes (c .before .before .before .before .before .before .before .before) .1
+put-line-requires-3 c κs = goes (c .before .before .before .before .before .before .before .before .before) .1
 
 enum-told : tie.Need-enum-told Inv-loop μ-loop
 enum-told c = search needs
@@ -114,46 +130,53 @@ session-of-requires : tie.Need-session-of-requires Inv-loop μ-loop
 session-of-requires c κs = tt
 
 answer-requires : tie.Need-answer-requires Inv-loop μ-loop
-answer-requires c κs = goes (c .before .before .before .before .before .before .before) .1
+answer-requires c κs = goes (c .before .before .before .before .before .before .before .before) .1
 
 identities-requires-2 : tie.Need-identities-requires-2 Inv-loop μ-loop
 identities-requires-2 c κs = tt
 
 add-i : tie.Need-add-i Inv-loop μ-loop
-add-i c = omega (arith, goes (c .before .before .before .before) .0)
+add-i c = omega (arith, c .before .before .before .before .before .before .before .before .before .before .before .before .before .before .before .before .before .before .good .1 .0 .0, goes (c .before .before .before .before .before) .0)
 
 loop-less : tie.Need-loop-less Inv-loop μ-loop
-loop-less c = let p = c .before .before .before .before .before .before .line-at .ensures .ends-at .passes in omega (arith, goes (c .before .before .before .before) .0, p .from)
+loop-less c = let p = c .before .before .before .before .before .before .before .line-at .ensures .ends-at .passes in omega (arith, goes (c .before .before .before .before .before) .0, p .from)
+
+-- what the loop keeps, of parts that are equal
+same-parts : {m : Model} {xs page₀ page page′ ids ids′ : List ℕ} {b b′ : Bool} {s s′ : Setting} {es es′ : List Target} {at at′ i : ℕ}
+    → page′ ≡ page → b′ ≡ b → s′ ≡ s → es′ ≡ es → ids′ ≡ ids → at′ ≡ at
+    → Under s ids es → Passed m xs page₀ page (sessionOf b s es) [] at i → length ids ≡ 64
+    → Under s′ ids′ es′ × Passed m xs page₀ page′ (sessionOf b′ s′ es′) [] at′ i × (length ids′ ≡ 64)
+same-parts p b s e i a u v k = rw (p, b, s, e, i, a) (u, v, k)
 
 loop-again : tie.Need-loop-again Inv-loop μ-loop
 unfolding Quickly
 loop-again c =
-    let l = c .before .before .before .before .before .before .before .before .loop in
-    let n = c .before .before .before .before .before .before .line-at .ensures .ends-at in
-    let t = goes (c .before .before .before .before) .0 in
+    let l = c .before .before .before .before .before .before .before .before .before .loop in
+    let n = c .before .before .before .before .before .before .before .line-at .ensures .ends-at in
+    let t = goes (c .before .before .before .before .before) .0 in
     let e = n .ends t in
-    let f = c .before .before .read-known .ensures in
+    let f = c .before .before .before .read-known .ensures in
     let u = l .inv .0 in
     let v = passed-bytes (l .inv .1) (n .passes) in
-    let q = Quickly (l .started) (l .setting) (l .ids) (c .before .before .read-known .result) in
-    let k = c .before .look .ensures in
+    let q = Quickly (l .started) (l .setting) (l .ids) (c .before .before .before .read-known .result) in
+    let k = looked (c .before) in
     elim (c .match .came) [
       | inl z ↦
           let h = subst q (z .1 .given .1) k (l .entries) u in
-          rw (z .7, z .8, z .9, z .10, z .11, z .12) (u, passed-step v t e f h (z .4 .ensures))
+          same-parts (z .7) (z .8) (z .9) (z .10) (z .11) (z .12) u (passed-step v t e f h (z .4 .ensures)) (l .inv .2)
       | inr x ↦ elim x [
         | inl z ↦
             let h = subst q (z .1 .given .1) k (l .entries) u in
-            rw (z .7, z .8, z .9, z .10, z .11, z .12) (h .1, passed-step v t e f (h .2) (z .4 .ensures))
+            same-parts (z .7) (z .8) (z .9) (z .10) (z .11) (z .12) (h .1) (passed-step v t e f (h .2) (z .4 .ensures)) (l .inv .2)
         | inr y ↦ elim y [
           | inl z ↦
               let h = subst q (z .1 .given .1) k (l .entries) u in
-              rw (z .8, z .9, z .10, z .11, z .12, z .13, z .3 .ensures) (h .0, passed-step v t e f (h .1) (z .5 .ensures))
+              same-parts (z .8) (z .9) (z .10) (z .11 ∙ z .3 .ensures) (z .12) (z .13) (h .0) (passed-step v t e f (h .1) (z .5 .ensures)) (l .inv .2)
           | inr z ↦
               let a = answering-by (z .2 .ensures) (z .4 .ensures) in
               let i = z .10 .ensures in
-              rw (z .11, z .12, z .13, z .14, z .15, z .16)
-              (under-own _ _ _ (i .1) (a .counted) (i .0), passed-whole v t e f a)
+              same-parts (z .11) (z .12) (z .13) (z .14) (z .15) (z .16) (under-own _ _ _ (i .1) (a .counted) (i .0)) (passed-whole v t e f a)
+              (ids-long (z .4 .result .targets) _ (i .1) (i .0))
         ]
       ]
     ]
@@ -220,6 +243,7 @@ lines-spec =
     part-read-known-start
     part-read-known-end
     read-known-requires
+    slice-aggregate-look
     look-requires
     enum-known-reply
     put-line-requires
