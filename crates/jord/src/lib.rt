@@ -1,5 +1,6 @@
 // Numbers, units, vectors, positions and vehicles: a module to a file of the source.
 pub mod angle;
+mod constants;
 pub mod length;
 pub mod mat33;
 pub mod numbers;

@@ -1,0 +1,36 @@
+// The source's constants that no function here uses, held to their definitions.
+ghost use mathlib.Core.Path.{_≡_};
+ghost use Rattle.jord.specs.Angle.{NEG-HALF-CIRCLE, DBL-EPSILON};
+ghost use Rattle.jord.specs.Mat33.{IDENTITY};
+ghost use Rattle.jord.specs.Vec3.{NEG-UNIT-X};
+use crate::angle::Angle;
+use crate::mat33::Mat33;
+use crate::vec3::Vec3;
+
+// -180 degrees.
+fn neg_half_circle() -> Angle
+    ensures { λ r. ⌜ r ≡ NEG-HALF-CIRCLE ⌝ }
+{
+    Angle::NEG_HALF_CIRCLE
+}
+
+// EPSILON radians.
+fn dbl_epsilon() -> Angle
+    ensures { λ r. ⌜ r ≡ DBL-EPSILON ⌝ }
+{
+    Angle::DBL_EPSILON
+}
+
+// The identity matrix.
+fn identity() -> Mat33
+    ensures { λ r. ⌜ r ≡ IDENTITY ⌝ }
+{
+    Mat33::IDENTITY
+}
+
+// Against the x axis.
+fn neg_unit_x() -> Vec3
+    ensures { λ r. ⌜ r ≡ NEG-UNIT-X ⌝ }
+{
+    Vec3::NEG_UNIT_X
+}
