@@ -1,75 +1,88 @@
+-- Each turn of the loop uses some of the piece, and what is used makes up the piece.
+use Prim.Native.Nat.{_-_, _≤_, _<_}
+use mathlib.Core.Path.{_≡_, refl, sym, _∙_}
+use native.Mathlib.Omega.{arith}
+use lib.ListN.{length, take}
+use lib.Seq.{length-take-le, take-all}
+use Rattle.frames.specs.Stream.{view, fedState}
+use Rattle.plot.proofs.Progress.{some-used, part-length, poured}
 use Rattle.plot.proofs.pour.Statement.{statement}
 use Rattle.plot.proofs.pour.Tie as tie
-use Rattle.plot.proofs.pour.Reads as reads
-use Rattle.plot.proofs.pour.Lts as lts
-use Rattle.frames.proofs.stream.feed.Reads as feed-reads
-use Rattle.io.proofs.write_all.Reads as write-all-reads
 
 abbrev Inv-loop : tie.InvT-loop
-Inv-loop xs page₀ stream₀ i₀ page stream i = ?
+Inv-loop xs page₀ stream₀ i₀ page stream i =
+    (i ≤ length xs) × (length page ≡ length page₀) × (view stream ≡ fedState (view stream₀) (take i xs))
 
 abbrev μ-loop : tie.MeasureT-loop
-μ-loop xs page₀ stream₀ i₀ page stream i = ?
+μ-loop xs page₀ stream₀ i₀ page stream i = length xs - i
 
--- src/main.rt:31:5
 loop-holds : tie.Need-loop-holds Inv-loop μ-loop
-loop-holds c = ?
+unfolding fedState
+loop-holds c = (omega arith, refl, refl)
 
--- src/main.rt:32:48
 sub-feed : tie.Need-sub-feed Inv-loop μ-loop
-sub-feed c = ?
+sub-feed c = omega arith
 
--- src/main.rt:32:48
 part-feed-start : tie.Need-part-feed-start Inv-loop μ-loop
-part-feed-start c = ?
+part-feed-start c = omega arith
 
--- src/main.rt:32:48
 part-feed-end : tie.Need-part-feed-end Inv-loop μ-loop
-part-feed-end c = ?
+part-feed-end c = omega arith
 
--- src/main.rt:32:13
 feed-requires : tie.Need-feed-requires Inv-loop μ-loop
-feed-requires c κs = ?
+feed-requires c κs = tt
 
--- src/main.rt:35:9
 add-i : tie.Need-add-i Inv-loop μ-loop
-add-i c = ?
+add-i c =
+    let e = part-length (c .before .before .before .before .before .before .before .before .before .before .before .args .xs .now) (c .before .before .before .before .before .before .before .before .loop .i) (omega arith) in
+    omega (arith, e, c .before .before .before .before .feed .ensures .within)
 
--- src/main.rt:37:30
 slice-reshare-prefix-write-all : tie.Need-slice-reshare-prefix-write-all Inv-loop μ-loop
-slice-reshare-prefix-write-all c = ?
+slice-reshare-prefix-write-all c =
+    let w = c .before .before .before .before .feed .ensures .wrote in
+    omega (arith, w .within, w .long)
 
--- src/main.rt:37:30
 slice-aggregate-write-all : tie.Need-slice-aggregate-write-all Inv-loop μ-loop
-slice-aggregate-write-all c = ?
+slice-aggregate-write-all c =
+    let w = c .before .before .before .before .before .feed .ensures .wrote in
+    sym (length-take-le _ _ (omega (arith, w .within, w .long)))
 
--- src/main.rt:37:13
 write-all-requires : tie.Need-write-all-requires Inv-loop μ-loop
-write-all-requires c κs = ?
+write-all-requires c κs = tt
 
--- src/main.rt:38:13
 same-length : tie.Need-same-length Inv-loop μ-loop
-same-length c = ?
+same-length c = c .before .before .before .before .before .before .before .feed .ensures .wrote .long ∙ c .before .before .before .before .before .before .before .before .before .before .before .loop .inv .1
 
--- src/main.rt:38:13
 returns : tie.Need-returns Inv-loop μ-loop
-returns c = ?
+returns c = λ e. let z : ⊥ = omega (arith, e) in absurd z
 
--- src/main.rt:31:5
 loop-less : tie.Need-loop-less Inv-loop μ-loop
-loop-less c = ?
+loop-less c =
+    let a = c .before .before .before .before .before .before .before .before .before .before .before .before .before .before .args in
+    let l = c .before .before .before .before .before .before .before .before .before .before .before .loop in
+    let e = part-length (a .xs .now) (l .i) (omega arith) in
+    let f = c .before .before .before .before .before .before .before .feed .ensures in
+    let u : 0 < c .before .before .before .before .before .before .before .feed .result .used = some-used f (omega (arith, e)) (omega (arith, l .inv .1)) in
+    omega (arith, e, f .within)
 
--- src/main.rt:31:5
 loop-again : tie.Need-loop-again Inv-loop μ-loop
-loop-again c = ?
+loop-again c =
+    let l = c .before .before .before .before .before .before .before .before .before .before .before .loop in
+    let a = c .before .before .before .before .before .before .before .before .before .before .before .before .before .before .args in
+    let e = part-length (a .xs .now) (l .i) (omega arith) in
+    let f = c .before .before .before .before .before .before .before .feed .ensures in (
+      omega (arith, e, f .within),
+      f .wrote .long ∙ l .inv .1,
+      f .state-is ∙ poured (view (a .s)) _ (a .xs .now) (l .i) (c .before .before .before .before .before .before .before .feed .result .used) (l .inv .2) (omega (arith, e, f .within)),
+    )
 
--- src/main.rt:25:1
 same-length-2 : tie.Need-same-length-2 Inv-loop μ-loop
-same-length-2 c = ?
+same-length-2 c = c .before .loop .inv .1
 
--- src/main.rt:25:1
 returns-2 : tie.Need-returns-2 Inv-loop μ-loop
-returns-2 c = ?
+returns-2 c =
+    let l = c .before .loop in
+    λ e. l .inv .2 ∙ rw (take-all (l .i) (c .before .before .before .before .args .xs .now) (omega arith))
 
 pub pour-spec : {M : Type 1} → statement M
 pour-spec =
