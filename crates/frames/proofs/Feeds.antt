@@ -108,8 +108,11 @@ unfolding waits
 waits-not e n left h =
     split n e
     (λ l. let w : waits e n left ≡ true = simp (le-ltb e n l) in absurd (false≢true (sym h ∙ w)))
-    (λ l. (l, split room left (λ g. g) (λ g.
-    let w : waits e n left ≡ true = simp (lt-ltb e n l, lt-ltb left room g) in absurd (false≢true (sym h ∙ w)))))
+    (λ l. (
+      l,
+      split room left (λ g. g) (λ g.
+          let w : waits e n left ≡ true = simp (lt-ltb e n l, lt-ltb left room g) in absurd (false≢true (sym h ∙ w))),
+    ))
 
 -- ---- the line that has begun, and then the rest
 
