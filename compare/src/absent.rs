@@ -22,6 +22,8 @@ refused! {
     answering::run() -> std::io::Result<()>;
     boards::run(u64) -> std::io::Result<bool>;
     chases::run(u64) -> ();
+    cost::run() -> std::io::Result<()>;
+    costs::run() -> std::io::Result<bool>;
     plot::run() -> std::io::Result<()>;
     plots::run(u64) -> std::io::Result<bool>;
     solves::run() -> std::io::Result<bool>;

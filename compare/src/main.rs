@@ -26,20 +26,22 @@ mod second;
 mod stream;
 mod time;
 
-use original::{answering, boards, chases, plot, plots, solves, speeds, stored, whole};
+use original::{
+    answering, boards, chases, cost, costs, plot, plots, solves, speeds, stored, whole,
+};
 use std::{env, io, process::ExitCode};
 
 const USAGE: &str = "usage: compare whole [PERCENT] | scale [N] | time | jord [N] | sphere [N] \
                      | nine [N] | chases [N] | solves | answer | sample STDIN STDOUT | probe [N] | board [N] | plots [N] \
-                     | speeds | plot | session STDIN STDOUT";
+                     | speeds | plot | costs | cost | session STDIN STDOUT";
 const NOT_LINKED: &str =
     "no library: run `rt staticlib exports` in the repository's root, then build again";
 const NOT_BUILT: &str = "no original: put its source in ../../shared/docs/src, or name its folder \
                          in JORD_SRC, then build again";
 /// Commands that need the original.
-const ORIGINAL: [&str; 14] = [
+const ORIGINAL: [&str; 16] = [
     "whole", "jord", "sphere", "nine", "chases", "solves", "answer", "sample", "probe", "board",
-    "plots", "speeds", "plot", "session",
+    "plots", "speeds", "plot", "costs", "cost", "session",
 ];
 /// How much of all the following numbers the whole comparison meets.
 const PERCENT: u64 = 100;
@@ -97,6 +99,8 @@ fn run(words: &[&str]) -> Result<bool, String> {
         ["plots", rest @ ..] => plots::run(count(rest, PLOTS)?).map_err(unplotted),
         ["speeds"] => speeds::run().map_err(unplotted),
         ["plot"] => plot::run().map(|()| true).map_err(|error| error.to_string()),
+        ["costs"] => costs::run().map_err(|error| format!("target/bin/costs: {error}")),
+        ["cost"] => cost::run().map(|()| true).map_err(|error| error.to_string()),
         ["probe", rest @ ..] => probe::compare(count(rest, PROBE)?).map_err(unfit),
         _ => Err(USAGE.into()),
     }

@@ -6,6 +6,8 @@ mod beside;
 mod board;
 pub mod boards;
 pub mod chases;
+pub mod cost;
+pub mod costs;
 mod examples;
 mod exchanges;
 mod frame;

@@ -18,3 +18,4 @@ pub mod Picks
 pub mod Parts
 pub mod Means
 pub mod Glances
+pub mod Changes

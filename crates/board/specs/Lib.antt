@@ -8,4 +8,5 @@ pub mod History
 pub mod Exchange
 pub mod Demand3
 pub mod Code
+pub mod Change
 pub mod Glance

@@ -1,11 +1,11 @@
 // The calls of a board. The board goes in by value and comes back beside the answer.
 ghost use mathlib.Core.Path.{_≡_};
 ghost use Rattle.board.specs.Board as spec;
+ghost use Rattle.board.specs.Change as code;
 ghost use mathlib.Core.Bool.{not};
-ghost use lib.ListN.{take};
-ghost use Rattle.board.specs.Code.{plain, cut, Demanded};
+ghost use Prim.Native.Nat.{_≤_};
+ghost use Rattle.board.specs.Code.{plain, Demanded};
 ghost use Rattle.board.specs.History.{accepts};
-ghost use Rattle.board.specs.Targets.{listed};
 use crate::call::Answer;
 use crate::call::Call;
 use crate::call::Coordinates;
@@ -25,16 +25,19 @@ use crate::questions::solved;
 use crate::state::Board;
 use crate::state::Own;
 use crate::state::Tracked;
+use crate::targets::Change;
 use crate::targets::Found;
 use crate::targets::Held;
 use crate::targets::Lined;
+use crate::targets::Sought;
+use crate::targets::Spot;
+use crate::targets::Target;
 use crate::targets::Targets;
-use crate::targets::clear;
+use crate::targets::bared;
+use crate::targets::closed;
 use crate::targets::empty;
-use crate::targets::find;
-use crate::targets::place;
-use crate::targets::remove;
-use crate::targets::standing;
+use crate::targets::inserted;
+use crate::targets::least;
 
 // A board beside what it answered.
 pub struct Answered {
@@ -95,15 +98,61 @@ pub fn solve(board: Board, identity: u16) -> Answered
 }
 
 // Any call: its answer, and the board after it. A refused call changes nothing.
+// The entries are long: they are held once here and changed in place.
 pub fn hear(board: Board, call: Call) -> Answered
     ensures { λ r. ⌜ (r .answer ≡ spec.answer (plain board) call) × (plain (r .board) ≡ spec.after (plain board) call) ⌝ }
 {
-    let answer = answer_of(board, call);
+    let own = board.own;
+    let track = board.track;
+    let targets = board.targets;
+    let mut entries = targets.entries;
+    let n = least(targets.count);
+    let sought = seek_in(entries, n, name_of(call));
+    let spot = sought.spot;
+    let found = sought.found;
+    let answer = answer_of(board.radius, own, track, found, n, call);
     if refuses(answer) {
-        return Answered { board, answer };
+        return Answered {
+            board: Board {
+                radius: board.radius,
+                own,
+                track,
+                targets: Targets {
+                    entries,
+                    count: targets.count,
+                },
+                total: board.total,
+            },
+            answer,
+        };
+    }
+    let change = change_of(call, answer, spot, found);
+    match change {
+        Change::Stays => {}
+        Change::Stores(p, t) => {
+            entries[p] = t;
+        }
+        Change::Inserts(p, t) => {
+            entries = inserted(entries, p, t);
+        }
+        Change::Removes(p) => {
+            entries = closed(entries, p);
+        }
+        Change::Sweeps => {
+            entries = bared(entries);
+        }
     }
     Answered {
-        board: accepted(board, call, answer),
+        board: Board {
+            radius: board.radius,
+            own: own_after(call, own),
+            track: track_after(call, track),
+            targets: Targets {
+                entries,
+                count: count_after(change, n),
+            },
+            total: total_after(answer, board.total),
+        },
         answer,
     }
 }
@@ -119,52 +168,39 @@ pub fn refuses(answer: Answer) -> bool
     }
 }
 
-// The questions of a call in their order; the first no refuses it.
-fn answer_of(board: Board, call: Call) -> Answer
-    ensures { λ r. ⌜ r ≡ spec.answer (plain board) call ⌝ }
+// The questions of a call in their order, put to the parts of a board: n targets stand, and this is held under the identity that is named.
+// The first no refuses it.
+fn answer_of(radius: f64, own: Own, track: Tracked, found: Found, n: usize, call: Call) -> Answer
+    ensures { λ r. ⌜ code.Answers radius own track found n call r ⌝ }
 {
-    let targets = board.targets;
     match call {
         Call::Report(identity, fix) => ask(
             identity_asked(identity),
-            ask_fix(
-                fix,
-                ask(
-                    room_asked(find(targets, identity), standing(targets)),
-                    Answer::Done,
-                ),
-            ),
+            ask_fix(fix, ask(room_asked(found, n), Answer::Done)),
         ),
         Call::Withdraw(identity) => ask(
             identity_asked(identity),
-            ask(held_asked(find(targets, identity)), Answer::Done),
+            ask(held_asked(found), Answer::Done),
         ),
         Call::OwnShip(fix) => ask_fix(fix, Answer::Done),
         Call::Track(start, end) => ask_ends(start, end, Answer::Done),
-        Call::Solve(identity) => {
-            let own = board.own;
-            let track = board.track;
-            ask(
-                identity_asked(identity),
-                solved(board.radius, see(find(targets, identity), own, track)),
-            )
-        }
+        Call::Solve(identity) => ask(
+            identity_asked(identity),
+            solved(radius, see(found, own, track)),
+        ),
     }
 }
 
-// The board after an accepted call, part by part.
-fn accepted(board: Board, call: Call, answer: Answer) -> Board
-    ensures { λ r. ⌜ plain r ≡ cut (spec.accepted (plain board) call answer) ⌝ }
+// The identity that a call names, or 0.
+fn name_of(call: Call) -> u16
+    ensures { λ r. ⌜ r ≡ code.nameOf call ⌝ }
 {
-    let own = board.own;
-    let track = board.track;
-    let targets = board.targets;
-    Board {
-        radius: board.radius,
-        own: own_after(call, own),
-        track: track_after(call, track),
-        targets: targets_after(call, answer, targets),
-        total: total_after(answer, board.total),
+    match call {
+        Call::Report(identity, _) => identity,
+        Call::Withdraw(identity) => identity,
+        Call::OwnShip(_) => 0,
+        Call::Track(_, _) => 0,
+        Call::Solve(identity) => identity,
     }
 }
 
@@ -205,9 +241,39 @@ fn total_after(answer: Answer, total: u32) -> u32
     }
 }
 
-// The targets after an accepted call with this answer.
-fn targets_after(call: Call, answer: Answer, targets: Targets) -> Targets
-    ensures { λ r. ⌜ listed r ≡ take 64 (spec.targetsAfter call answer (listed targets)) ⌝ }
+// Where an identity stands among the first n entries, or before which it would, and what is held under it.
+fn seek_in(entries: [Target; 64], n: usize, identity: u16) -> Sought
+    requires { ⌜ n ≤ 64 ⌝ }
+    ensures { λ r. ⌜ code.Seeks entries n identity r ⌝ }
+{
+    let mut i = 0;
+    while i < n {
+        let k = entries[i].identity;
+        if identity <= k {
+            if identity == k {
+                let t = entries[i];
+                let held = t.held;
+                return Sought {
+                    spot: Spot::At(i),
+                    found: Found::There(held),
+                };
+            }
+            return Sought {
+                spot: Spot::Before(i),
+                found: Found::Nothing,
+            };
+        }
+        i += 1;
+    }
+    Sought {
+        spot: Spot::Before(i),
+        found: Found::Nothing,
+    }
+}
+
+// What an accepted call with this answer does to the targets, where the identity that it names stands there and this is held under it.
+fn change_of(call: Call, answer: Answer, spot: Spot, found: Found) -> Change
+    ensures { λ r. ⌜ code.Changes call answer spot found r ⌝ }
 {
     match call {
         Call::Report(identity, fix) => {
@@ -215,15 +281,45 @@ fn targets_after(call: Call, answer: Answer, targets: Targets) -> Targets
                 report: vehicle(fix),
                 line: Lined::Bare,
             };
-            place(targets, identity, held)
+            placing(spot, Target { identity, held })
         }
-        Call::Withdraw(identity) => remove(targets, identity),
-        Call::OwnShip(_) => clear(targets),
-        Call::Track(_, _) => clear(targets),
-        Call::Solve(identity) => match find(targets, identity) {
-            Found::Nothing => targets,
-            Found::There(held) => place(targets, identity, with_line(answer, held)),
+        Call::Withdraw(_) => match spot {
+            Spot::At(p) => Change::Removes(p),
+            Spot::Before(_) => Change::Stays,
         },
+        Call::OwnShip(_) => Change::Sweeps,
+        Call::Track(_, _) => Change::Sweeps,
+        Call::Solve(identity) => match found {
+            Found::Nothing => Change::Stays,
+            Found::There(held) => {
+                let held = with_line(answer, held);
+                placing(spot, Target { identity, held })
+            }
+        },
+    }
+}
+
+// A target stored where its identity stands, or inserted where it belongs.
+fn placing(spot: Spot, t: Target) -> Change
+    ensures { λ r. ⌜ r ≡ code.placing spot t ⌝ }
+{
+    match spot {
+        Spot::At(p) => Change::Stores(p, t),
+        Spot::Before(p) => Change::Inserts(p, t),
+    }
+}
+
+// How many targets stand after a change, where n stood.
+fn count_after(change: Change, n: usize) -> usize
+    requires { ⌜ n ≤ 64 ⌝ }
+    ensures { λ r. ⌜ r ≡ code.countAfter change n ⌝ }
+{
+    match change {
+        Change::Stays => n,
+        Change::Stores(_, _) => n,
+        Change::Inserts(_, _) => n + 1,
+        Change::Removes(_) => if n == 0 { 0 } else { n - 1 },
+        Change::Sweeps => n,
     }
 }
 

@@ -47,6 +47,26 @@ pub enum Spot {
     Before(usize),
 }
 
+// What a search for an identity gives: its spot, and what is held under it.
+pub struct Sought {
+    pub spot: Spot,
+    pub found: Found,
+}
+
+// What a call does to the targets.
+pub enum Change {
+    // Nothing.
+    Stays,
+    // This target takes the place of entry p.
+    Stores(usize, Target),
+    // This target comes before entry p.
+    Inserts(usize, Target),
+    // Entry p is taken out.
+    Removes(usize),
+    // Every line is taken away.
+    Sweeps,
+}
+
 // No target stands.
 pub fn empty() -> Targets
     ensures { λ r. ⌜ r ≡ spec.empty ⌝ }
@@ -63,86 +83,11 @@ pub fn empty() -> Targets
     }
 }
 
-// How many targets stand.
-pub fn standing(targets: Targets) -> usize
-    ensures { λ r. ⌜ r ≡ length (spec.listed targets) ⌝ }
-{
-    let entries = targets.entries;
-    counted(entries, targets.count)
-}
-
-// How many of the entries stand.
-fn counted(entries: [Target; 64], count: usize) -> usize
-    ensures { λ r. ⌜ r ≡ length (take (spec.atMost64 count) entries) ⌝ }
-{
-    least(count)
-}
-
 // A count, or 64 where it says more.
 pub fn least(count: usize) -> usize
     ensures { λ r. ⌜ r ≡ spec.atMost64 count ⌝ }
 {
     if count < 64 { count } else { 64 }
-}
-
-// What is held under an identity, or nothing.
-pub fn find(targets: Targets, identity: u16) -> Found
-    ensures { λ r. ⌜ r ≡ spec.find identity (spec.listed targets) ⌝ }
-{
-    let entries = targets.entries;
-    match locate(entries, least(targets.count), identity) {
-        Spot::At(p) => {
-            let t = entries[p];
-            let held = t.held;
-            Found::There(held)
-        }
-        Spot::Before(_) => Found::Nothing,
-    }
-}
-
-// With this held under an identity, in its place. Where there is no room the last target falls off.
-pub fn place(targets: Targets, identity: u16, held: Held) -> Targets
-    ensures { λ r. ⌜ spec.listed r ≡ take 64 (spec.place identity (Found.There held) (spec.listed targets)) ⌝ }
-{
-    let entries = targets.entries;
-    let n = least(targets.count);
-    let t = Target { identity, held };
-    match locate(entries, n, identity) {
-        Spot::At(p) => Targets {
-            entries: replaced(entries, p, t),
-            count: n,
-        },
-        Spot::Before(p) => Targets {
-            entries: inserted(entries, p, t),
-            count: n + 1,
-        },
-    }
-}
-
-// Without the target of an identity.
-pub fn remove(targets: Targets, identity: u16) -> Targets
-    ensures { λ r. ⌜ spec.listed r ≡ spec.place identity Found.Nothing (spec.listed targets) ⌝ }
-{
-    let entries = targets.entries;
-    let n = least(targets.count);
-    match locate(entries, n, identity) {
-        Spot::At(p) => Targets {
-            entries: closed(entries, p),
-            count: n - 1,
-        },
-        Spot::Before(_) => targets,
-    }
-}
-
-// Every line taken away.
-pub fn clear(targets: Targets) -> Targets
-    ensures { λ r. ⌜ spec.listed r ≡ spec.bared (spec.listed targets) ⌝ }
-{
-    let entries = targets.entries;
-    Targets {
-        entries: bared(entries),
-        count: targets.count,
-    }
 }
 
 // The identities of the targets that stand, then zeros.
@@ -167,15 +112,6 @@ fn identities_of(entries: [Target; 64], n: usize) -> [u16; 64]
     out
 }
 
-// Where an identity stands among the first n entries, or before which it would.
-fn locate(entries: [Target; 64], n: usize, identity: u16) -> Spot
-    requires { ⌜ n ≤ 64 ⌝ }
-    ensures { λ r. ⌜ (r ≡ spec.spotFrom 0 identity (take n entries)) × (length entries ≡ 64) ⌝ }
-{
-    let ids = identities_of(entries, n);
-    seek(&ids[..], n, identity)
-}
-
 // Where an identity stands among the first of these, at most 64, or before which it would.
 pub fn seek(ids: &[u16], count: usize, identity: u16) -> Spot
     ensures { λ r. ⌜ r ≡ spec.spotIn 0 identity (take (spec.atMost64 count) (now (ids .entry))) ⌝ }
@@ -196,20 +132,8 @@ pub fn seek(ids: &[u16], count: usize, identity: u16) -> Spot
     Spot::Before(i)
 }
 
-// t in place p.
-fn replaced(entries: [Target; 64], p: usize, t: Target) -> [Target; 64]
-    ensures { λ r. ⌜ r ≡ set entries p t ⌝ }
-{
-    if 64 <= p {
-        return entries;
-    }
-    let mut out = entries;
-    out[p] = t;
-    out
-}
-
 // t in place p, and what stood there and after it one place on. The last falls off.
-fn inserted(entries: [Target; 64], p: usize, t: Target) -> [Target; 64]
+pub fn inserted(entries: [Target; 64], p: usize, t: Target) -> [Target; 64]
     ensures { λ r. ⌜ r ≡ take 64 (take p entries ++ t ∷ drop p entries) ⌝ }
 {
     if 64 <= p {
@@ -226,7 +150,7 @@ fn inserted(entries: [Target; 64], p: usize, t: Target) -> [Target; 64]
 }
 
 // Without what stood in place p, and what stood after it one place back. The last stands twice.
-fn closed(entries: [Target; 64], p: usize) -> [Target; 64]
+pub fn closed(entries: [Target; 64], p: usize) -> [Target; 64]
     ensures { λ r. ⌜ r ≡ take 64 ((take p entries ++ drop (p + 1) entries) ++ drop 63 entries) ⌝ }
 {
     if 64 <= p {
@@ -241,16 +165,32 @@ fn closed(entries: [Target; 64], p: usize) -> [Target; 64]
     out
 }
 
-// The target without its line.
+// The target without its line, number by number: a struct that is copied whole goes by way of memory and takes twice the time.
 fn bare(t: Target) -> Target
     ensures { λ r. ⌜ r ≡ spec.bareTarget t ⌝ }
 {
     let held = t.held;
     let report = held.report;
+    let at = report.position.as_vec3();
+    let position = NVector::new(Vec3 {
+        x: at.x,
+        y: at.y,
+        z: at.z,
+    });
+    let bearing = Angle {
+        radians: report.bearing.radians,
+    };
+    let speed = Speed {
+        mps: report.speed.mps,
+    };
     Target {
         identity: t.identity,
         held: Held {
-            report,
+            report: Vehicle {
+                position,
+                bearing,
+                speed,
+            },
             line: Lined::Bare,
         },
     }

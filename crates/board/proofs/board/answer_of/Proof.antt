@@ -1,7 +1,8 @@
 -- `answer_of` meets its contract. The questions of each call, in their order.
-use borrow.Author.Needs.{needs}
-use Rattle.board.specs.Code.{plain}
+use mathlib.Core.Path.{refl}
 use Rattle.board.specs.Board.{answer}
+use Rattle.board.specs.Change.{Answers}
+use borrow.Author.Needs.{needs}
 use Rattle.board.proofs.board.answer_of.Statement.{statement}
 use Rattle.board.proofs.board.answer_of.Tie as tie
 
@@ -10,12 +11,6 @@ enum-known-call c = search needs
 
 identity-asked-requires : tie.Need-identity-asked-requires
 identity-asked-requires c κs = search needs
-
-find-requires : tie.Need-find-requires
-find-requires c κs = search needs
-
-standing-requires : tie.Need-standing-requires
-standing-requires c κs = search needs
 
 room-asked-requires : tie.Need-room-asked-requires
 room-asked-requires c κs = search needs
@@ -34,9 +29,6 @@ enum-known-call-2 c = search needs
 
 identity-asked-requires-2 : tie.Need-identity-asked-requires-2
 identity-asked-requires-2 c κs = search needs
-
-find-requires-2 : tie.Need-find-requires-2
-find-requires-2 c κs = search needs
 
 held-asked-requires : tie.Need-held-asked-requires
 held-asked-requires c κs = search needs
@@ -65,9 +57,6 @@ enum-known-call-5 c = search needs
 identity-asked-requires-3 : tie.Need-identity-asked-requires-3
 identity-asked-requires-3 c κs = search needs
 
-find-requires-3 : tie.Need-find-requires-3
-find-requires-3 c κs = search needs
-
 see-requires : tie.Need-see-requires
 see-requires c κs = search needs
 
@@ -78,24 +67,24 @@ ask-requires-5 : tie.Need-ask-requires-5
 ask-requires-5 c κs = search needs
 
 returns : tie.Need-returns
-unfolding answer plain
-returns c = rw (c .ask2 .ensures, c .before .ask-fix .ensures, c .before .before .ask .ensures, c .before .before .before .room-asked .ensures, c .before .before .before .before .standing .ensures, c .before .before .before .before .before .find .ensures, c .before .before .before .before .before .before .identity-asked .ensures, c .before .before .before .before .before .before .before .before .call .given .1)
+unfolding Answers answer
+returns c = rw (c .ask2 .ensures, c .before .ask-fix .ensures, c .before .before .ask .ensures, c .before .before .before .room-asked .ensures, c .before .before .before .before .identity-asked .ensures, c .before .before .before .before .before .before .call .given .1) (λ l k ex en. rw (ex, en))
 
 returns-2 : tie.Need-returns-2
-unfolding answer plain
-returns-2 c = rw (c .ask4 .ensures, c .before .ask3 .ensures, c .before .before .held-asked .ensures, c .before .before .before .find2 .ensures, c .before .before .before .before .identity-asked2 .ensures, c .before .before .before .before .before .before .call2 .given .1)
+unfolding Answers answer
+returns-2 c = rw (c .ask4 .ensures, c .before .ask3 .ensures, c .before .before .held-asked .ensures, c .before .before .before .identity-asked2 .ensures, c .before .before .before .before .before .call2 .given .1) (λ l k ex en. rw ex)
 
 returns-3 : tie.Need-returns-3
-unfolding answer plain
-returns-3 c = rw (c .ask-fix2 .ensures, c .before .before .call3 .given .1)
+unfolding Answers answer
+returns-3 c = rw (c .ask-fix2 .ensures, c .before .before .call3 .given .1) (λ l k ex en. refl)
 
 returns-4 : tie.Need-returns-4
-unfolding answer plain
-returns-4 c = rw (c .ask-ends .ensures, c .before .before .call4 .given .1)
+unfolding Answers answer
+returns-4 c = rw (c .ask-ends .ensures, c .before .before .call4 .given .1) (λ l k ex en. refl)
 
 returns-5 : tie.Need-returns-5
-unfolding answer plain
-returns-5 c = rw (c .ask5 .ensures, c .before .solved .ensures, c .before .before .see .ensures, c .before .before .before .find3 .ensures, c .before .before .before .before .identity-asked3 .ensures, c .before .before .before .before .before .before .call5 .given .1)
+unfolding Answers answer
+returns-5 c = rw (c .ask5 .ensures, c .before .solved .ensures, c .before .before .see .ensures, c .before .before .before .identity-asked3 .ensures, c .before .before .before .before .before .call5 .given .1) (λ l k ex en. rw ex)
 
 pub answer-of-spec : {M : Type 1} → statement M
 answer-of-spec =
@@ -103,15 +92,12 @@ answer-of-spec =
     (tie.spec
     enum-known-call
     identity-asked-requires
-    find-requires
-    standing-requires
     room-asked-requires
     ask-requires
     ask-fix-requires
     ask-requires-2
     enum-known-call-2
     identity-asked-requires-2
-    find-requires-2
     held-asked-requires
     ask-requires-3
     ask-requires-4
@@ -121,7 +107,6 @@ answer-of-spec =
     ask-ends-requires
     enum-known-call-5
     identity-asked-requires-3
-    find-requires-3
     see-requires
     solved-requires
     ask-requires-5

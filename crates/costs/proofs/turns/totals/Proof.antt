@@ -1,0 +1,51 @@
+-- The turns that are left fall at each turn.
+use Prim.Native.Nat.{_-_}
+use native.Mathlib.Omega.{arith}
+use borrow.Author.Needs.{needs}
+use Rattle.costs.proofs.turns.totals.Statement.{statement}
+use Rattle.costs.proofs.turns.totals.Tie as tie
+
+abbrev Inv-loop : tie.InvT-loop
+Inv-loop count board₀ seen₀ turn₀ board seen turn = Unit {0}
+
+abbrev μ-loop : tie.MeasureT-loop
+μ-loop count board₀ seen₀ turn₀ board seen turn = count - turn
+
+loop-holds : tie.Need-loop-holds Inv-loop μ-loop
+loop-holds c = tt
+
+total-requires : tie.Need-total-requires Inv-loop μ-loop
+total-requires c κs = tt
+
+cast-wrapping-add-u64 : tie.Need-cast-wrapping-add-u64 Inv-loop μ-loop
+cast-wrapping-add-u64 c = search needs
+
+wrapping-add-u64-requires : tie.Need-wrapping-add-u64-requires Inv-loop μ-loop
+wrapping-add-u64-requires c κs = tt
+
+add-turn : tie.Need-add-turn Inv-loop μ-loop
+add-turn c = omega arith
+
+loop-less : tie.Need-loop-less Inv-loop μ-loop
+loop-less c = omega arith
+
+loop-again : tie.Need-loop-again Inv-loop μ-loop
+loop-again c = tt
+
+returns : tie.Need-returns Inv-loop μ-loop
+returns c = tt
+
+pub totals-spec : {M : Type 1} → statement M
+totals-spec =
+    tie.close
+    (tie.spec
+    Inv-loop
+    μ-loop
+    loop-holds
+    total-requires
+    cast-wrapping-add-u64
+    wrapping-add-u64-requires
+    add-turn
+    loop-less
+    loop-again
+    returns)
