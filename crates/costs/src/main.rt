@@ -9,29 +9,14 @@ const COUNT: usize = 8;
 
 const LINE: usize = 11;
 
-// The call that a number names, so many times, from a board with 64 targets.
-fn run(call: u64, count: u64) -> turns::Run {
-    let board = turns::full();
-    match call {
-        1 => turns::fresh_boards(board, count),
-        2 => turns::reports(board, count),
-        3 => turns::withdrawals(board, count),
-        4 => turns::own_ships(board, count),
-        5 => turns::tracks(board, count),
-        6 => turns::solves(board, count),
-        7 => turns::means(board, count),
-        8 => turns::picks(board, count),
-        _ => turns::totals(board, count),
-    }
-}
-
 // The digest of each whole line.
 fn answer(text: &[u8]) {
     let mut at = 0;
     while text.len() - at >= LINE {
         let call = hex::number_at(text, at, CALL);
         let count = hex::number_at(text, at + CALL, COUNT);
-        io::print_hex(1, turns::digest(run(call, count)), 16);
+        let run = turns::turns(turns::full(), call, count);
+        io::print_hex(1, turns::digest(run), 16);
         io::write_all(1, b"\n");
         at += LINE;
     }

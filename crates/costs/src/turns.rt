@@ -1,4 +1,4 @@
-// Each call in a loop of its own, as a caller would write it. The board of a turn is the one that the turn before left.
+// Turns of one call, as a caller would write them. The board of a turn is the one that the turn before left.
 use crate::inputs::coordinates;
 use crate::inputs::fix;
 use crate::inputs::identity;
@@ -6,8 +6,10 @@ use board::asking::Choice;
 use board::asking::mean;
 use board::asking::pick;
 use board::asking::total;
+use board::board::Answered;
 use board::board::fresh;
 use board::board::own_ship;
+use board::board::refuses;
 use board::board::report;
 use board::board::solve;
 use board::board::track;
@@ -23,6 +25,13 @@ const EARTH: f64 = 6371000.8;
 // The most targets of a board.
 const HELD: u64 = 64;
 
+// The numbers of the calls that fill a board, and of the first that asks.
+const REPORT: u64 = 2;
+
+const SOLVE: u64 = 6;
+
+const ASKING: u64 = 7;
+
 // A board after some turns, and the sum of what the turns answered.
 pub struct Run {
     pub board: Board,
@@ -37,9 +46,9 @@ pub fn full() -> Board {
     let alone = steered.board;
     let tracked = track(alone, coordinates(0), coordinates(1));
     let empty = tracked.board;
-    let placed = reports(empty, HELD);
+    let placed = turns(empty, REPORT, HELD);
     let unsolved = placed.board;
-    let lined = solves(unsolved, HELD);
+    let lined = turns(unsolved, SOLVE, HELD);
     lined.board
 }
 
@@ -85,144 +94,51 @@ fn of_choice(choice: Choice) -> u64 {
     }
 }
 
-// Fresh boards, each of a radius a metre longer than that before.
-pub fn fresh_boards(start: Board, count: u64) -> Run {
+// The call that a number names, so many times. It is chosen within the loop: a function for a turn would copy the board once more.
+// A call that asks leaves the board as it was, so the radius, which none asks for, is set anew: each turn has a board of its own. The last has the earth's.
+pub fn turns(start: Board, call: u64, count: u64) -> Run {
     let mut board = start;
     let mut seen = 0;
     let mut turn = 0;
     while turn < count {
-        let a = fresh(board.radius + 1.0);
-        let next = a.board;
-        board = next;
-        let answer = a.answer;
-        seen = std::num::wrapping_add_u64(seen, of_answer(answer));
-        turn += 1;
-    }
-    Run { board, seen }
-}
-
-// Reports: of a held target, if 64 are held.
-pub fn reports(start: Board, count: u64) -> Run {
-    let mut board = start;
-    let mut seen = 0;
-    let mut turn = 0;
-    while turn < count {
-        let a = report(board, identity(turn), fix(turn));
-        let next = a.board;
-        board = next;
-        let answer = a.answer;
-        seen = std::num::wrapping_add_u64(seen, of_answer(answer));
-        turn += 1;
-    }
-    Run { board, seen }
-}
-
-// Withdrawals, and a first report after each.
-pub fn withdrawals(start: Board, count: u64) -> Run {
-    let mut board = start;
-    let mut seen = 0;
-    let mut turn = 0;
-    while turn < count {
-        let a = withdraw(board, identity(turn));
-        let without = a.board;
-        let b = report(without, identity(turn), fix(turn));
-        let next = b.board;
-        board = next;
-        let gone = a.answer;
-        let back = b.answer;
-        seen = std::num::wrapping_add_u64(seen, of_answer(gone));
-        seen = std::num::wrapping_add_u64(seen, of_answer(back));
-        turn += 1;
-    }
-    Run { board, seen }
-}
-
-// Own ships.
-pub fn own_ships(start: Board, count: u64) -> Run {
-    let mut board = start;
-    let mut seen = 0;
-    let mut turn = 0;
-    while turn < count {
-        let a = own_ship(board, fix(turn));
-        let next = a.board;
-        board = next;
-        let answer = a.answer;
-        seen = std::num::wrapping_add_u64(seen, of_answer(answer));
-        turn += 1;
-    }
-    Run { board, seen }
-}
-
-// Tracks.
-pub fn tracks(start: Board, count: u64) -> Run {
-    let mut board = start;
-    let mut seen = 0;
-    let mut turn = 0;
-    while turn < count {
-        let a = track(board, coordinates(turn), coordinates(turn + 1));
-        let next = a.board;
-        board = next;
-        let answer = a.answer;
-        seen = std::num::wrapping_add_u64(seen, of_answer(answer));
-        turn += 1;
-    }
-    Run { board, seen }
-}
-
-// Solves.
-pub fn solves(start: Board, count: u64) -> Run {
-    let mut board = start;
-    let mut seen = 0;
-    let mut turn = 0;
-    while turn < count {
-        let a = solve(board, identity(turn));
-        let next = a.board;
-        board = next;
-        let answer = a.answer;
-        seen = std::num::wrapping_add_u64(seen, of_answer(answer));
-        turn += 1;
-    }
-    Run { board, seen }
-}
-
-// Means. The radius, which they do not ask for, is set anew: each turn has a board of its own. The last has the earth's.
-pub fn means(start: Board, count: u64) -> Run {
-    let mut board = start;
-    let mut seen = 0;
-    let mut turn = 0;
-    while turn < count {
-        seen = std::num::wrapping_add_u64(seen, of_mean(mean(board)));
-        board.radius = board.radius + 1.0;
+        if 0 < call && call < ASKING {
+            let a = match call {
+                1 => fresh(board.radius + 1.0),
+                2 => report(board, identity(turn), fix(turn)),
+                3 => renewed(board, turn),
+                4 => own_ship(board, fix(turn)),
+                5 => track(board, coordinates(turn), coordinates(turn + 1)),
+                _ => solve(board, identity(turn)),
+            };
+            let next = a.board;
+            board = next;
+            let answer = a.answer;
+            seen = std::num::wrapping_add_u64(seen, of_answer(answer));
+        } else {
+            let answer = match call {
+                7 => of_mean(mean(board)),
+                8 => of_choice(pick(board)),
+                _ => total(board) as u64,
+            };
+            seen = std::num::wrapping_add_u64(seen, answer);
+            board.radius = board.radius + 1.0;
+        }
         turn += 1;
     }
     board.radius = EARTH;
     Run { board, seen }
 }
 
-// Picks, as the means.
-pub fn picks(start: Board, count: u64) -> Run {
-    let mut board = start;
-    let mut seen = 0;
-    let mut turn = 0;
-    while turn < count {
-        seen = std::num::wrapping_add_u64(seen, of_choice(pick(board)));
-        board.radius = board.radius + 1.0;
-        turn += 1;
+// A withdrawal, and a first report after it. The first refusal of the two is answered.
+fn renewed(start: Board, turn: u64) -> Answered {
+    let a = withdraw(start, identity(turn));
+    let without = a.board;
+    let gone = a.answer;
+    let b = report(without, identity(turn), fix(turn));
+    let board = b.board;
+    let back = b.answer;
+    Answered {
+        board,
+        answer: if refuses(gone) { gone } else { back },
     }
-    board.radius = EARTH;
-    Run { board, seen }
-}
-
-// Totals, as the means.
-pub fn totals(start: Board, count: u64) -> Run {
-    let mut board = start;
-    let mut seen = 0;
-    let mut turn = 0;
-    while turn < count {
-        seen = std::num::wrapping_add_u64(seen, total(board) as u64);
-        board.radius = board.radius + 1.0;
-        turn += 1;
-    }
-    board.radius = EARTH;
-    Run { board, seen }
 }

@@ -26,8 +26,11 @@ add-number-at c = search needs
 number-at-requires-2 : tie.Need-number-at-requires-2 Inv-loop μ-loop
 number-at-requires-2 c κs = tt
 
-run-requires : tie.Need-run-requires Inv-loop μ-loop
-run-requires c κs = tt
+full-requires : tie.Need-full-requires Inv-loop μ-loop
+full-requires c κs = tt
+
+turns-requires : tie.Need-turns-requires Inv-loop μ-loop
+turns-requires c κs = tt
 
 digest-requires : tie.Need-digest-requires Inv-loop μ-loop
 digest-requires c κs = tt
@@ -64,7 +67,8 @@ answer-spec =
     number-at-requires
     add-number-at
     number-at-requires-2
-    run-requires
+    full-requires
+    turns-requires
     digest-requires
     print-hex-requires
     slice-aggregate-write-all
