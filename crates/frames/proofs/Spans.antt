@@ -4,7 +4,6 @@ use mathlib.Core.Bool.{Bool, true, false, true≢false, _||_}
 use mathlib.Core.List.{List, _++_}
 use mathlib.Core.Logic.{_≢_}
 use mathlib.Core.Path.{_≡_, refl, sym, ap, _∙_}
-use native.Mathlib.Decide.{decLe}
 use native.Mathlib.Omega.{arith}
 use borrow.Author.Tests.{lt-ltb, le-ltb, eqb-false}
 use lib.Dec.{eqb}
@@ -14,10 +13,7 @@ use Rattle.hex.specs.Hex.{allDigits}
 use Rattle.hex.proofs.Read.{digit-from, digits-each, part-length}
 use Rattle.frames.specs.Line.{kept, least, NoNewline, Holds, Passes, EndsAt, part}
 use Rattle.frames.specs.Whole.{newline}
-
--- a is at most b, or b is less
-split : {G : Type 0} (a b : ℕ) → (a ≤ b → G) → (b < a → G) → G
-split a b f g = elim (decLe a b) [ yes h ↦ f h | no h ↦ g (omega arith) ]
+use Rattle.frames.proofs.Pieces.{split}
 
 -- neither test is true
 neither : (t : Bool) {u : Bool} → (t || u) ≡ false → (t ≡ false) × (u ≡ false)
