@@ -1,7 +1,6 @@
 -- A search of the entries, and the change of the array that each call makes: it stands for the plain board's targets after the call.
 use Prim.Native.Nat.{ℕ, suc, _+_, _≤_, _<_}
 use native.Mathlib.Numerals.{add-one}
-use native.Mathlib.Omega.{arith}
 use mathlib.Core.Bool.{true}
 use mathlib.Core.List.{List, [], _∷_, map}
 use mathlib.Core.Path.{_≡_, refl, sym, ap, _∙_}
@@ -25,7 +24,7 @@ use Rattle.board.specs.declared.call.Fix.{Fix}
 use Rattle.board.specs.declared.call.Call.{Call}
 use Rattle.board.specs.declared.call.Call.the-variants.{Report, Withdraw, OwnShip, Track, Solve}
 use Rattle.board.specs.declared.call.Answer.{Answer}
-use Rattle.board.specs.Targets.{find, place, bared, bareTarget, spotIn, spotFrom, atMost64, listed}
+use Rattle.board.specs.Targets.{mostTargets, find, place, bared, bareTarget, spotIn, spotFrom, atMost, listed}
 use Rattle.board.specs.Call.{vehicle, named}
 use Rattle.board.specs.Board.{answer, after, accepted, targetsAfter, put, swept, leaves, lined, withLine, ownAfter, trackAfter, raised}
 use Rattle.board.specs.Code.{plain, cut}
@@ -66,21 +65,21 @@ module _ (x n : ℕ) (es : List Target) (i : ℕ) (fit : n ≤ length es) (h : s
 -- a count that is at most 64 already
 stays-is : (ts : Targets) → listed (changed Stays ts) ≡ listed ts
 unfolding listed entriesAfter
-stays-is ts = ap (λ (k : ℕ). take k (ts .entries)) (at-most-same (atMost64 (ts .count)) (at-most-le (ts .count)))
+stays-is ts = ap (λ (k : ℕ). take k (ts .entries)) (at-most-same (atMost (ts .count)) (at-most-le (ts .count)))
 
 sweeps-is : (ts : Targets) → listed (changed Sweeps ts) ≡ bared (listed ts)
 unfolding listed entriesAfter
 sweeps-is ts =
-    ap (λ (k : ℕ). take k (map bareTarget (ts .entries))) (at-most-same (atMost64 (ts .count)) (at-most-le (ts .count)))
-    ∙ take-bared (atMost64 (ts .count)) (ts .entries)
+    ap (λ (k : ℕ). take k (map bareTarget (ts .entries))) (at-most-same (atMost (ts .count)) (at-most-le (ts .count)))
+    ∙ take-bared (atMost (ts .count)) (ts .entries)
 
-placed : (i : ℕ) (h : Held) (s : Spot) (ts : Targets) → length (ts .entries) ≡ 64 → s ≡ spotFrom 0 i (listed ts)
-    → Within (placing s (record { identity = i; held = h })) (atMost64 (ts .count))
-    × (listed (changed (placing s (record { identity = i; held = h })) ts) ≡ take 64 (place i (There h) (listed ts)))
+placed : (i : ℕ) (h : Held) (s : Spot) (ts : Targets) → length (ts .entries) ≡ mostTargets → s ≡ spotFrom 0 i (listed ts)
+    → Within (placing s (record { identity = i; held = h })) (atMost (ts .count))
+    × (listed (changed (placing s (record { identity = i; held = h })) ts) ≡ take mostTargets (place i (There h) (listed ts)))
 unfolding listed entriesAfter Within
 placed i h (At p) ts full q =
-    (held-below i (atMost64 (ts .count)) (ts .entries) p (sym q), stored-is ts i (atMost64 (ts .count)) full refl (At p) q p h refl)
-placed i h (Before p) ts full q = (tt, inserted-is ts i (atMost64 (ts .count)) full refl (Before p) q p h refl)
+    (held-below i (atMost (ts .count)) (ts .entries) p (sym q), stored-is ts i (atMost (ts .count)) full refl (At p) q p h refl)
+placed i h (Before p) ts full q = (tt, inserted-is ts i (atMost (ts .count)) full refl (Before p) q p h refl)
 
 pub report-changes : (i : ℕ) (f : Fix) (a : Answer) (s : Spot) (x : Found)
     → Changes (Report i f) a s x (placing s (record { identity = i; held = record { report = vehicle f; line = Bare } }))
@@ -90,11 +89,11 @@ report-changes i f a s x ts full q e = placed i (record { report = vehicle f; li
 pub withdraw-removes : (i : ℕ) (a : Answer) (p : ℕ) (x : Found) → Changes (Withdraw i) a (At p) x (Removes p)
 unfolding Changes targetsAfter put named swept leaves listed entriesAfter Within
 withdraw-removes i a p x ts full q e =
-    (tt, removed-is ts i (atMost64 (ts .count)) full refl (At p) q p refl ∙ removed-fits i ts)
+    (tt, removed-is ts i (atMost (ts .count)) full refl (At p) q p refl ∙ removed-fits i ts)
 
-not-there : (i p : ℕ) (ts : Targets) → length (ts .entries) ≡ 64 → Before p ≡ spotFrom 0 i (listed ts) → listed ts ≡ place i Nothing (listed ts)
+not-there : (i p : ℕ) (ts : Targets) → length (ts .entries) ≡ mostTargets → Before p ≡ spotFrom 0 i (listed ts) → listed ts ≡ place i Nothing (listed ts)
 unfolding listed
-not-there i p ts full q = removed-not ts i (atMost64 (ts .count)) full refl (Before p) q p refl
+not-there i p ts full q = removed-not ts i (atMost (ts .count)) full refl (Before p) q p refl
 
 pub withdraw-stays : (i : ℕ) (a : Answer) (p : ℕ) (x : Found) → Changes (Withdraw i) a (Before p) x Stays
 unfolding Changes targetsAfter put named swept leaves Within
@@ -111,18 +110,18 @@ track-sweeps b d a s x ts full q e = (tt, sweeps-is ts ∙ bared-fits ts)
 pub solve-stays : (i : ℕ) (a : Answer) (s : Spot) → Changes (Solve i) a s Nothing Stays
 unfolding Changes targetsAfter put named swept leaves Within
 solve-stays i a s ts full q e =
-    (tt, stays-is ts ∙ absent-fits i ts (sym e) ∙ ap (λ (y : Found). take 64 (place i (lined a y) (listed ts))) e)
+    (tt, stays-is ts ∙ absent-fits i ts (sym e) ∙ ap (λ (y : Found). take mostTargets (place i (lined a y) (listed ts))) e)
 
 pub solve-changes : (i : ℕ) (a : Answer) (s : Spot) (h : Held) → Changes (Solve i) a s (There h) (placing s (record { identity = i; held = withLine a h }))
 unfolding Changes targetsAfter put named swept leaves
 solve-changes i a s h ts full q e =
     let p = placed i (withLine a h) s ts full q in
-    (p .0, p .1 ∙ ap (λ (y : Found). take 64 (place i (lined a y) (listed ts))) e)
+    (p .0, p .1 ∙ ap (λ (y : Found). take mostTargets (place i (lined a y) (listed ts))) e)
 
 -- ---- a call of the code
 
 -- the search is one of the plain board's targets
-pub sought-is : (ts : Targets) (n x y : ℕ) (r : Sought) → Seeks (ts .entries) n x r → n ≡ atMost64 (ts .count) → x ≡ y
+pub sought-is : (ts : Targets) (n x y : ℕ) (r : Sought) → Seeks (ts .entries) n x r → n ≡ atMost (ts .count) → x ≡ y
     → (r .spot ≡ spotFrom 0 y (listed ts)) × (r .found ≡ find y (listed ts)) × (n ≡ length (listed ts))
 unfolding listed
 sought-is ts n x y r k e f =
@@ -135,14 +134,14 @@ answered-is b c a x n k e f = k (listed (b .targets)) (b .total) e f
 
 -- one that is accepted
 
-module _ (b : Board) (c : Call) (a : Answer) (r : Change) (s : Spot) (x : Found) (full : length (b .targets .entries) ≡ 64)
+module _ (b : Board) (c : Call) (a : Answer) (r : Change) (s : Spot) (x : Found) (full : length (b .targets .entries) ≡ mostTargets)
     (q : s ≡ spotFrom 0 (nameOf c) (listed (b .targets))) (e : x ≡ find (nameOf c) (listed (b .targets))) (k : Changes c a s x r) where
-  pub within-is : Within r (atMost64 (b .targets .count))
+  pub within-is : Within r (atMost (b .targets .count))
   unfolding Changes
   within-is = k (b .targets) full q e .0
 
   pub changed-is : (es : List Target) (n : ℕ) → a ≡ answer (plain b) c → accepts a ≡ true
-      → es ≡ entriesAfter r (b .targets .entries) → n ≡ countAfter r (atMost64 (b .targets .count))
+      → es ≡ entriesAfter r (b .targets .entries) → n ≡ countAfter r (atMost (b .targets .count))
       → plain (record { radius = b .radius; own = ownAfter c (b .own); track = trackAfter c (b .track); targets = record { entries = es; count = n }; total = raised a (b .total) })
       ≡ after (plain b) c
   unfolding Changes plain cut accepted

@@ -13,7 +13,7 @@ use Rattle.board.specs.declared.targets.Held.{Held}
 use Rattle.board.specs.declared.targets.Found.{Found}
 use Rattle.board.specs.declared.targets.Found.the-variants.{Nothing, There}
 use Rattle.board.specs.declared.call.Call.{Call}
-use Rattle.board.specs.Targets.{find}
+use Rattle.board.specs.Targets.{mostTargets, find}
 use Rattle.board.specs.Board.{fresh, run}
 use Rattle.board.specs.Asking.{mean}
 use Rattle.board.specs.History.{heard, LastReported, lastLine}
@@ -64,7 +64,7 @@ module _ (r : Float) (cs : List Call) where
   unfolding AllIn fresh find
   empty-known ids i h e = cc
 
-  alike : length (identities cs) ≤ 64 → (ps : List ℕ) → MayExchange ps cs → Alike r cs ps
+  alike : length (identities cs) ≤ mostTargets → (ps : List ℕ) → MayExchange ps cs → Alike r cs ps
   alike fits ps m =
       let sound : Sound (identities cs) (fresh r) = record { fit = fresh-fit r; known = empty-known (identities cs) } in
       let both = exchange-list (identities cs) fits (fresh r) ps cs sound (within-identities cs) m in

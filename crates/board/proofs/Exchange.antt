@@ -18,7 +18,7 @@ use Rattle.board.specs.declared.call.Call.the-variants.{Report, Withdraw
 use Rattle.board.specs.declared.call.Answer.{Answer}
 use Rattle.board.specs.declared.call.Answer.the-variants.{Done, Solved, Refused}
 use Rattle.board.specs.declared.questions.Said.the-variants.{Yes}
-use Rattle.board.specs.Targets.{find, place, bared, RisingFrom}
+use Rattle.board.specs.Targets.{mostTargets, find, place, bared, RisingFrom}
 use Rattle.board.specs.Call.{named}
 use Rattle.board.specs.Questions.{ask, identityAsked, askFix, heldAsked, roomAsked, see, solved}
 use Rattle.board.specs.Board.{Plain, answer, leaves, swept, raised, outcome, after, run}
@@ -77,14 +77,14 @@ unfoldable pub NamesIn : List ℕ → Call → Type 0
 NamesIn ids c = (i : ℕ) → named c ≡ some i → i ≢ 0 → among i ids ≡ true
 
 -- question 9 is always answered by yes
-room : (ids : List ℕ) (b : Plain) (i : ℕ) → length ids ≤ 64 → Sound ids b → among i ids ≡ true
+room : (ids : List ℕ) (b : Plain) (i : ℕ) → length ids ≤ mostTargets → Sound ids b → among i ids ≡ true
     → (x : Found) → find i (b .targets) ≡ x → roomAsked x (length (b .targets)) ≡ Yes
 room ids b i h s m Nothing e =
     let q : length (b .targets) < length ids = pigeons-room 1 i (b .targets) ids (s .fit .rising) (s .known) e m in
-    simp (lt-ltb (length (b .targets)) 64 (omega arith))
+    simp (lt-ltb (length (b .targets)) mostTargets (omega arith))
 room ids b i h s m (There x) e = refl
 
-answer-reply : (ids : List ℕ) (b : Plain) (c : Call) (i : ℕ) → length ids ≤ 64 → Sound ids b → named c ≡ some i → NamesIn ids c
+answer-reply : (ids : List ℕ) (b : Plain) (c : Call) (i : ℕ) → length ids ≤ mostTargets → Sound ids b → named c ≡ some i → NamesIn ids c
     → answer b c ≡ reply b c (find i (b .targets))
 unfolding answer reply NamesIn named
 answer-reply ids b (Report j f) i h s e m = go (ℕ-discrete i 0)
@@ -140,7 +140,7 @@ rising-0 ids b s = rising-down 0 1 (b .targets) (omega arith) (s .fit .rising)
 
 -- ---- two neighbours
 
-module _ (ids : List ℕ) (fits : length ids ≤ 64) where
+module _ (ids : List ℕ) (fits : length ids ≤ mostTargets) where
   step-at : (b : Plain) (c : Call) (i : ℕ) → Sound ids b → named c ≡ some i → NamesIn ids c
       → after b c
       ≡ onto b i (cell c (reply b c (find i (b .targets))) (find i (b .targets))) (raised (reply b c (find i (b .targets))) (b .total))
@@ -219,7 +219,7 @@ within-swapped ids p (c ∷ []) w = w
 within-swapped ids zero (c ∷ d ∷ cs) w = (w .1 .0, (w .0, w .1 .1))
 within-swapped ids (suc p) (c ∷ d ∷ cs) w = (w .0, within-swapped ids p (d ∷ cs) (w .1))
 
-module _ (ids : List ℕ) (fits : length ids ≤ 64) where
+module _ (ids : List ℕ) (fits : length ids ≤ mostTargets) where
   swap-list : (b : Plain) (p : ℕ) (cs : List Call) → Sound ids b → Within ids cs → MaySwap p cs
       → (run b (swapped p cs) ≡ run b cs) × (heard b (swapped p cs) ≡ swapped p (heard b cs))
   unfolding run heard swapped

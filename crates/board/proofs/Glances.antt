@@ -24,7 +24,7 @@ use Rattle.board.specs.declared.call.Answer.{Answer}
 use Rattle.board.specs.declared.call.Answer.the-variants.{Done, Solved, Refused}
 use Rattle.board.specs.declared.questions.Said.{Said}
 use Rattle.board.specs.declared.questions.Said.the-variants.{Yes, No}
-use Rattle.board.specs.Targets.{identityOf, identities, atMost64, listed, spotIn, spotFrom, bareTarget, bared}
+use Rattle.board.specs.Targets.{mostTargets, identityOf, identities, atMost, listed, spotIn, spotFrom, bareTarget, bared}
 use Rattle.board.specs.Call.{vehicle, named}
 use Rattle.board.specs.Questions.{ask, askFix, identityAsked, fixFiniteAsked, fixUnitAsked, speedAsked, askEnds, endsFiniteAsked, endsUnitAsked, circleAsked}
 use Rattle.board.specs.Board.{Plain, answer, after, outcome, accepted, targetsAfter, put, swept, leaves}
@@ -39,16 +39,16 @@ use Rattle.board.proofs.Played.{heard-refused}
 -- ---- identities
 
 -- the first of the identities are those of the first entries
-pub identities-first : (es : List Target) (n : ℕ) → length es ≡ 64 → n ≤ 64 → take n (identities es n) ≡ map identityOf (take n es)
+pub identities-first : (es : List Target) (n : ℕ) → length es ≡ mostTargets → n ≤ mostTargets → take n (identities es n) ≡ map identityOf (take n es)
 unfolding identities
 identities-first es n full small =
     take-at (map identityOf (take n es)) _ n (length-map identityOf (take n es) ∙ length-take-le n es (omega arith))
 
 -- there are 64 with the zeros
-pub length-identities : (es : List Target) (n : ℕ) → length es ≡ 64 → n ≤ 64 → length (identities es n) ≡ 64
+pub length-identities : (es : List Target) (n : ℕ) → length es ≡ mostTargets → n ≤ mostTargets → length (identities es n) ≡ mostTargets
 unfolding identities
 length-identities es n full small =
-    rw (length-append, length-map identityOf (take n es), length-take-le n es (omega arith), length-drop, length-replicate {A = ℕ} 64 0) (omega arith)
+    rw (length-append, length-map identityOf (take n es), length-take-le n es (omega arith), length-drop, length-replicate {A = ℕ} mostTargets 0) (omega arith)
 
 -- a search of the identities is one of the entries
 pub sought : (es : List Target) (ids : List ℕ) (n x : ℕ) → take n ids ≡ map identityOf (take n es) → spotIn 0 x (take n ids) ≡ spotFrom 0 x (take n es)
@@ -95,19 +95,19 @@ module _ (s : Setting) (ids : List ℕ) where
   report-stays i f es r = report-refused i f _ r
 
   -- the identity stands at p
-  module _ (i p : ℕ) (f : Fix) (h : spotIn 0 i (take (atMost64 (s .count)) ids) ≡ At p) (es : List Target) (u : Under s ids es) where
+  module _ (i p : ℕ) (f : Fix) (h : spotIn 0 i (take (atMost (s .count)) ids) ≡ At p) (es : List Target) (u : Under s ids es) where
     abbrev reported : Target
     reported = record { identity = i; held = record { report = vehicle f; line = Bare } }
 
-    at : spotFrom 0 i (take (atMost64 (s .count)) es) ≡ At p
-    at = sym (sought es ids (atMost64 (s .count)) i (u .same)) ∙ h
+    at : spotFrom 0 i (take (atMost (s .count)) es) ≡ At p
+    at = sym (sought es ids (atMost (s .count)) i (u .same)) ∙ h
 
-    puts-below : p < 64
-    puts-below = omega (arith, held-below i (atMost64 (s .count)) es p at, at-most-le (s .count))
+    puts-below : p < mostTargets
+    puts-below = omega (arith, held-below i (atMost (s .count)) es p at, at-most-le (s .count))
 
     puts-under : Under s ids (set es p reported)
     puts-under =
-        let n = atMost64 (s .count) in
+        let n = atMost (s .count) in
         let below = held-below i n es p at in
         record {
           long = length-set es p reported ∙ u .long;
@@ -120,7 +120,7 @@ module _ (s : Setting) (ids : List ℕ) where
     puts-turns : ask (identityAsked i) (askFix f Done) ≡ Done → Turns (boardOf s es) (Report i f) Done (boardOf s (set es p reported))
     unfolding answer after outcome accepted targetsAfter put swept named leaves plain boardOf listed
     puts-turns d =
-        let n = atMost64 (s .count) in
+        let n = atMost (s .count) in
         let found = found-at es n (u .long) (at-most-le (s .count)) i p at in
         let done : answer (plain (boardOf s es)) (Report i f) ≡ Done = rw found d in
         let stored = sym (stands-at i (take n es) p at .stored (reported .held)) ∙ sym (take-set-lt n es p reported (held-below i n es p at)) in
@@ -147,13 +147,13 @@ record Sets (c : Call) (a : Answer) : Type 0 where
 -- an own ship or a track that is accepted
 module _ (s : Setting) (ids : List ℕ) (c : Call) (a : Answer) (k : Sets c a) (yes : accepts a ≡ true) (es : List Target) (u : Under s ids es) where
   sweeps-under : Under (setBy c s) ids (map bareTarget es)
-  sweeps-under = record { long = length-map bareTarget es ∙ u .long; same = u .same ∙ sym (bared-names (atMost64 (s .count)) es) }
+  sweeps-under = record { long = length-map bareTarget es ∙ u .long; same = u .same ∙ sym (bared-names (atMost (s .count)) es) }
 
   sweeps-turns : Turns (boardOf s es) c Done (boardOf (setBy c s) (map bareTarget es))
   unfolding after outcome accepted targetsAfter put plain boardOf listed
   sweeps-turns =
       let done : answer (plain (boardOf s es)) c ≡ Done = k .answer-is (plain (boardOf s es)) ∙ no-refusal a (k .no-line) yes in
-      record { answers = done; leaves = rw (done, k .names-none, k .sweeps (take (atMost64 (s .count)) es), take-bared (atMost64 (s .count)) es) }
+      record { answers = done; leaves = rw (done, k .names-none, k .sweeps (take (atMost (s .count)) es), take-bared (atMost (s .count)) es) }
 
 -- the questions of a fix or of a track alone hand out no line
 ask-lineless : (s : Said) (x : Answer) → ((l : Line) → x ≢ Solved l) → (l : Line) → ask s x ≢ Solved l
@@ -194,11 +194,11 @@ pub accepted-goes : (a : Answer) (h : Hint) → accepts a ≡ true → h ≡ unl
 accepted-goes a h e = rw e
 
 -- a report that the questions let through, and the place k that a search gives
-pub report-goes : (n : ℕ) (ids : List ℕ) (i : ℕ) (f : Fix) (k : Spot) → spotIn 0 i (take (atMost64 n) ids) ≡ k
+pub report-goes : (n : ℕ) (ids : List ℕ) (i : ℕ) (f : Fix) (k : Spot) → spotIn 0 i (take (atMost n) ids) ≡ k
     → accepts (ask (identityAsked i) (askFix f Done)) ≡ true → putAt k i f ≡ atReport n ids i f
 unfolding atReport
 report-goes n ids i f k h e =
-    ap (λ (j : Spot). putAt j i f) (sym h) ∙ accepted-goes (ask (identityAsked i) (askFix f Done)) (putAt (spotIn 0 i (take (atMost64 n) ids)) i f) e
+    ap (λ (j : Spot). putAt j i f) (sym h) ∙ accepted-goes (ask (identityAsked i) (askFix f Done)) (putAt (spotIn 0 i (take (atMost n) ids)) i f) e
 
 module _ (s : Setting) (ids : List ℕ) where
   -- a hint is right where a refusal stays and what is accepted is right
@@ -211,7 +211,7 @@ module _ (s : Setting) (ids : List ℕ) where
       go true e = right e
       go false e = λ es u. stays s ids c a (λ fs. refused fs e) e es
 
-  put-right : (i : ℕ) (f : Fix) (k : Spot) → spotIn 0 i (take (atMost64 (s .count)) ids) ≡ k → ask (identityAsked i) (askFix f Done) ≡ Done
+  put-right : (i : ℕ) (f : Fix) (k : Spot) → spotIn 0 i (take (atMost (s .count)) ids) ≡ k → ask (identityAsked i) (askFix f Done) ≡ Done
       → Glanced s ids (Report i f) (putAt k i f)
   unfolding Glanced
   put-right i f (At p) h d = λ es u. (puts-below s ids i p f h es u, puts-under s ids i p f h es u, puts-turns s ids i p f h es u d)
@@ -220,8 +220,8 @@ module _ (s : Setting) (ids : List ℕ) where
   report-right : (i : ℕ) (f : Fix) → Glanced s ids (Report i f) (atReport (s .count) ids i f)
   unfolding atReport
   report-right i f =
-      unless-refused (Report i f) (ask (identityAsked i) (askFix f Done)) (putAt (spotIn 0 i (take (atMost64 (s .count)) ids)) i f)
-      (report-stays s ids i f) (λ yes. put-right i f (spotIn 0 i (take (atMost64 (s .count)) ids)) refl (report-done i f yes))
+      unless-refused (Report i f) (ask (identityAsked i) (askFix f Done)) (putAt (spotIn 0 i (take (atMost (s .count)) ids)) i f)
+      (report-stays s ids i f) (λ yes. put-right i f (spotIn 0 i (take (atMost (s .count)) ids)) refl (report-done i f yes))
 
   setting-right : (c : Call) (a : Answer) → Sets c a → Glanced s ids c (atSetting s c a)
   unfolding atSetting Glanced

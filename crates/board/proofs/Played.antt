@@ -16,12 +16,13 @@ use Rattle.board.proofs.Slots.{listed-le}
 use Rattle.board.proofs.Steps.{not-accepted, is-accepted}
 use Rattle.board.proofs.Room.{room-after}
 use Rattle.board.proofs.Demand3.{demand-3}
+use Rattle.board.specs.Targets.{mostTargets}
 
-cut-small : (p : Plain) → length (p .targets) ≤ 64 → cut p ≡ p
+cut-small : (p : Plain) → length (p .targets) ≤ mostTargets → cut p ≡ p
 unfolding cut
-cut-small p h = rw (take-all 64 (p .targets) h)
+cut-small p h = rw (take-all mostTargets (p .targets) h)
 
-plain-small : (b : Board) → length (plain b .targets) ≤ 64
+plain-small : (b : Board) → length (plain b .targets) ≤ mostTargets
 unfolding plain
 plain-small b = listed-le (b .targets)
 

@@ -18,7 +18,7 @@ use Rattle.board.specs.declared.call.Answer.{Answer}
 use Rattle.board.specs.declared.call.Answer.the-variants.{Done, Refused}
 use Rattle.board.specs.declared.questions.Said.{Said}
 use Rattle.board.specs.declared.questions.Said.the-variants.{Yes, No}
-use Rattle.board.specs.Targets.{find, place}
+use Rattle.board.specs.Targets.{mostTargets, find, place}
 use Rattle.board.specs.Call.{named}
 use Rattle.board.specs.Questions.{ask, unless, identityAsked, fixFiniteAsked, fixUnitAsked, speedAsked, roomAsked}
 use Rattle.board.specs.Board.{Plain, answer, lined, leaves, put, swept, targetsAfter, accepted, outcome, after, run}
@@ -26,17 +26,17 @@ use Rattle.board.proofs.Places.{length-place, length-place-nothing, len
 use Rattle.board.proofs.Steps.{ask-elim, outcome-elim}
 
 abbrev Small : Plain → Type 0
-Small b = length (b .targets) ≤ 64
+Small b = length (b .targets) ≤ mostTargets
 
-module _ (b : Plain) (h : length (b .targets) ≤ 64) where
+module _ (b : Plain) (h : length (b .targets) ≤ mostTargets) where
   -- a target that is held, or for which there is room, may be placed
   placed : (j : ℕ) (y : Found) (x : Found) → find j (b .targets) ≡ x → roomAsked x (length (b .targets)) ≡ Yes
-      → length (place j y (b .targets)) ≤ 64
+      → length (place j y (b .targets)) ≤ mostTargets
   placed j y (There k) e q = omega (arith, length-place-held j y k (b .targets) e)
-  placed j y Nothing e q = go (ltb (length (b .targets)) 64) refl q
+  placed j y Nothing e q = go (ltb (length (b .targets)) mostTargets) refl q
     where
-      go : (t : Bool) → ltb (length (b .targets)) 64 ≡ t → unless t BoardFull ≡ Yes → length (place j y (b .targets)) ≤ 64
-      go true lt q = omega (arith, ltb-true (length (b .targets)) 64 lt, length-place j y (b .targets))
+      go : (t : Bool) → ltb (length (b .targets)) mostTargets ≡ t → unless t BoardFull ≡ Yes → length (place j y (b .targets)) ≤ mostTargets
+      go true lt q = omega (arith, ltb-true (length (b .targets)) mostTargets lt, length-place j y (b .targets))
       go false lt q = let z : _≡_ {A = ℕ} 0 1 = cc in absurd (omega arith)
 
   report-last : (j : ℕ) (f : Fix) (s : Said) → roomAsked (find j (b .targets)) (length (b .targets)) ≡ s → Small (outcome b (Report j f) (ask s Done))
@@ -59,11 +59,11 @@ module _ (b : Plain) (h : length (b .targets) ≤ 64) where
       (ask-elim P (speedAsked f) _ refuses (report-last j f (roomAsked (find j (b .targets)) (length (b .targets))) refl))))
 
   -- a solve places only what was there, with a line
-  solve-room : (j : ℕ) (a : Answer) (x : Found) → find j (b .targets) ≡ x → length (place j (lined a x) (b .targets)) ≤ 64
+  solve-room : (j : ℕ) (a : Answer) (x : Found) → find j (b .targets) ≡ x → length (place j (lined a x) (b .targets)) ≤ mostTargets
   solve-room j a Nothing e = omega (arith, length-place-nothing j (b .targets))
   solve-room j a (There k) e = omega (arith, length-place-held j (lined a (There k)) k (b .targets) e)
 
-  pub room-after : (c : Call) → length (after b c .targets) ≤ 64
+  pub room-after : (c : Call) → length (after b c .targets) ≤ mostTargets
   unfolding after
   room-after (Report j f) = report-room j f
   room-after (Withdraw j) =
@@ -79,7 +79,7 @@ module _ (b : Plain) (h : length (b .targets) ≤ 64) where
       outcome-elim Small b (Solve j) (answer b (Solve j)) h
       (unfold accepted targetsAfter put named swept leaves in solve-room j (answer b (Solve j)) (find j (b .targets)) refl)
 
-pub room-run : (b : Plain) (cs : List Call) → length (b .targets) ≤ 64 → length (run b cs .targets) ≤ 64
+pub room-run : (b : Plain) (cs : List Call) → length (b .targets) ≤ mostTargets → length (run b cs .targets) ≤ mostTargets
 unfolding run
 room-run b [] h = h
 room-run b (c ∷ cs) h = room-run (after b c) cs (room-after b h c)

@@ -16,24 +16,24 @@ use Rattle.board.specs.declared.targets.Targets.{Targets}
 use Rattle.board.specs.declared.targets.Found.the-variants.{Nothing, There}
 use Rattle.board.specs.declared.targets.Spot.{Spot}
 use Rattle.board.specs.declared.targets.Spot.the-variants.{At, Before}
-use Rattle.board.specs.Targets.{find, place, bareTarget, bared, atMost64, listed, spotFrom}
+use Rattle.board.specs.Targets.{mostTargets, find, place, bareTarget, bared, atMost, listed, spotFrom}
 use Rattle.board.proofs.Arrays.{absent, insertAt, removeAt, held-below, free-below}
 use Rattle.board.proofs.Spots.{stands-at, belongs-at}
 use Rattle.board.proofs.Places.{length-place-nothing, length-bared, place-absent}
 
-at-most-by : (n : ℕ) (t : Bool) → ltb n 64 ≡ t → n ≤ 64 → cond t n 64 ≡ n
+at-most-by : (n : ℕ) (t : Bool) → ltb n mostTargets ≡ t → n ≤ mostTargets → cond t n mostTargets ≡ n
 at-most-by n true e h = refl
-at-most-by n false e h = omega (arith, ltb-false n 64 e)
+at-most-by n false e h = omega (arith, ltb-false n mostTargets e)
 
-pub at-most-same : (n : ℕ) → n ≤ 64 → atMost64 n ≡ n
-at-most-same n h = at-most-by n (ltb n 64) refl h
+pub at-most-same : (n : ℕ) → n ≤ mostTargets → atMost n ≡ n
+at-most-same n h = at-most-by n (ltb n mostTargets) refl h
 
-at-most-le-by : (n : ℕ) (t : Bool) → ltb n 64 ≡ t → cond t n 64 ≤ 64
-at-most-le-by n true e = omega (arith, ltb-true n 64 e)
+at-most-le-by : (n : ℕ) (t : Bool) → ltb n mostTargets ≡ t → cond t n mostTargets ≤ mostTargets
+at-most-le-by n true e = omega (arith, ltb-true n mostTargets e)
 at-most-le-by n false e = omega arith
 
-pub at-most-le : (n : ℕ) → atMost64 n ≤ 64
-at-most-le n = at-most-le-by n (ltb n 64) refl
+pub at-most-le : (n : ℕ) → atMost n ≤ mostTargets
+at-most-le n = at-most-le-by n (ltb n mostTargets) refl
 
 module _ {A : Type 0} where
   drop-take : (p m : ℕ) (l : List A) → drop p (take (p + m) l) ≡ take m (drop p l)
@@ -46,26 +46,26 @@ module _ {A : Type 0} where
       let e : p + (n - p) ≡ n = omega arith in
       rw e at (drop-take p (n - p) l)
 
-  module _ (ts : List A) (n p : ℕ) (full : length ts ≡ 64) (small : n ≤ 64) where
-    first-inserted : (t : A) → p ≤ n → n < 64 → take (n + 1) (take 64 (insertAt p t ts)) ≡ insertAt p t (take n ts)
+  module _ (ts : List A) (n p : ℕ) (full : length ts ≡ mostTargets) (small : n ≤ mostTargets) where
+    first-inserted : (t : A) → p ≤ n → n < mostTargets → take (n + 1) (take mostTargets (insertAt p t ts)) ≡ insertAt p t (take n ts)
     first-inserted t within room =
         let k : length (take p ts) + suc (n - p) ≡ n + 1 = rw (length-take-le p ts (omega arith)) (omega arith) in
-        take-take (n + 1) 64 (insertAt p t ts) (omega arith)
+        take-take (n + 1) mostTargets (insertAt p t ts) (omega arith)
         ∙ (rw k at (take-append-add (take p ts) (t ∷ drop p ts) (suc (n - p))))
         ∙ rw (take-take p n ts within, drop-take-at p n ts within)
 
-    first-removed : p < n → take (n - 1) (take 64 (removeAt p ts ++ drop 63 ts)) ≡ removeAt p (take n ts)
+    first-removed : p < n → take (n - 1) (take mostTargets (removeAt p ts ++ drop (mostTargets - 1) ts)) ≡ removeAt p (take n ts)
     first-removed within =
         let k : length (take p ts) + (n - 1 - p) ≡ n - 1 = rw (length-take-le p ts (omega arith)) (omega arith) in
         let j : n - (p + 1) ≡ n - 1 - p = omega arith in
         let r : n - 1 ≤ length (removeAt p ts) = rw (length-append, length-drop, length-take-le p ts (omega arith)) (omega arith) in
-        take-take (n - 1) 64 (removeAt p ts ++ drop 63 ts) (omega arith)
-        ∙ take-append-le (n - 1) (removeAt p ts) (drop 63 ts) r
+        take-take (n - 1) mostTargets (removeAt p ts ++ drop (mostTargets - 1) ts) (omega arith)
+        ∙ take-append-le (n - 1) (removeAt p ts) (drop (mostTargets - 1) ts) r
         ∙ (rw k at (take-append-add (take p ts) (drop (p + 1) ts) (n - 1 - p)))
         ∙ rw (take-take p n ts (omega arith), drop-take-at (p + 1) n ts (omega arith), j)
 
 -- the list of an array with n entries in force
-module _ (ts : List Target) (n : ℕ) (full : length ts ≡ 64) (small : n ≤ 64) (x : ℕ) where
+module _ (ts : List Target) (n : ℕ) (full : length ts ≡ mostTargets) (small : n ≤ mostTargets) (x : ℕ) where
   long : length (take n ts) ≡ n
   long = length-take-le n ts (omega arith)
 
@@ -76,44 +76,44 @@ module _ (ts : List Target) (n : ℕ) (full : length ts ≡ 64) (small : n ≤ 6
   found-none p e = belongs-at x (take n ts) p e .looked
 
   pub stored-at : (p : ℕ) (h : Held) → spotFrom 0 x (take n ts) ≡ At p
-      → take (atMost64 n) (set ts p (record { identity = x; held = h })) ≡ take 64 (place x (There h) (take n ts))
+      → take (atMost n) (set ts p (record { identity = x; held = h })) ≡ take mostTargets (place x (There h) (take n ts))
   stored-at p h e =
       let s = stands-at x (take n ts) p e .stored h in
       rw (at-most-same n small, ← s)
       (take-set-lt n ts p (record { identity = x; held = h }) (held-below x n ts p e)
-      ∙ sym (take-all 64 (set (take n ts) p (record { identity = x; held = h })) (rw length-set (omega (arith, long)))))
+      ∙ sym (take-all mostTargets (set (take n ts) p (record { identity = x; held = h })) (rw length-set (omega (arith, long)))))
 
   -- where there is room
-  inserted-by : (p : ℕ) (h : Held) → spotFrom 0 x (take n ts) ≡ Before p → n < 64
-      → take (atMost64 (n + 1)) (take 64 (insertAt p (record { identity = x; held = h }) ts)) ≡ take 64 (place x (There h) (take n ts))
+  inserted-by : (p : ℕ) (h : Held) → spotFrom 0 x (take n ts) ≡ Before p → n < mostTargets
+      → take (atMost (n + 1)) (take mostTargets (insertAt p (record { identity = x; held = h }) ts)) ≡ take mostTargets (place x (There h) (take n ts))
   inserted-by p h e room =
       let s = belongs-at x (take n ts) p e .placed h in
       let low : p ≤ n = free-below x n ts p e in
-      let l : length (insertAt p (record { identity = x; held = h }) (take n ts)) ≤ 64 =
+      let l : length (insertAt p (record { identity = x; held = h }) (take n ts)) ≤ mostTargets =
       rw (length-append, length-take-le p (take n ts) (omega (arith, long)), length-drop, long) (omega arith) in
       rw (at-most-same (n + 1) (omega arith), ← s)
       (first-inserted ts n p full small (record { identity = x; held = h }) low room
-      ∙ sym (take-all 64 (insertAt p (record { identity = x; held = h }) (take n ts)) l))
+      ∙ sym (take-all mostTargets (insertAt p (record { identity = x; held = h }) (take n ts)) l))
 
   -- where there is none, the list is the whole array
-  inserted-full : (p : ℕ) (h : Held) → spotFrom 0 x (take n ts) ≡ Before p → n ≡ 64
-      → take (atMost64 (n + 1)) (take 64 (insertAt p (record { identity = x; held = h }) ts)) ≡ take 64 (place x (There h) (take n ts))
+  inserted-full : (p : ℕ) (h : Held) → spotFrom 0 x (take n ts) ≡ Before p → n ≡ mostTargets
+      → take (atMost (n + 1)) (take mostTargets (insertAt p (record { identity = x; held = h }) ts)) ≡ take mostTargets (place x (There h) (take n ts))
   inserted-full p h e f =
       let s = belongs-at x (take n ts) p e .placed h in
       let a : take n ts ≡ ts = take-all n ts (omega arith) in
-      rw (← s, a, f) (take-take 64 64 (insertAt p (record { identity = x; held = h }) ts) (omega arith))
+      rw (← s, a, f) (take-take mostTargets mostTargets (insertAt p (record { identity = x; held = h }) ts) (omega arith))
 
   pub inserted-at : (p : ℕ) (h : Held) → spotFrom 0 x (take n ts) ≡ Before p
-      → take (atMost64 (n + 1)) (take 64 (insertAt p (record { identity = x; held = h }) ts)) ≡ take 64 (place x (There h) (take n ts))
-  inserted-at p h e = go (ltb n 64) refl
+      → take (atMost (n + 1)) (take mostTargets (insertAt p (record { identity = x; held = h }) ts)) ≡ take mostTargets (place x (There h) (take n ts))
+  inserted-at p h e = go (ltb n mostTargets) refl
     where
-      go : (t : Bool) → ltb n 64 ≡ t
-          → take (atMost64 (n + 1)) (take 64 (insertAt p (record { identity = x; held = h }) ts)) ≡ take 64 (place x (There h) (take n ts))
-      go true q = inserted-by p h e (omega (arith, ltb-true n 64 q))
-      go false q = inserted-full p h e (omega (arith, ltb-false n 64 q))
+      go : (t : Bool) → ltb n mostTargets ≡ t
+          → take (atMost (n + 1)) (take mostTargets (insertAt p (record { identity = x; held = h }) ts)) ≡ take mostTargets (place x (There h) (take n ts))
+      go true q = inserted-by p h e (omega (arith, ltb-true n mostTargets q))
+      go false q = inserted-full p h e (omega (arith, ltb-false n mostTargets q))
 
   pub removed-at : (p : ℕ) → spotFrom 0 x (take n ts) ≡ At p
-      → take (atMost64 (n - 1)) (take 64 (removeAt p ts ++ drop 63 ts)) ≡ place x Nothing (take n ts)
+      → take (atMost (n - 1)) (take mostTargets (removeAt p ts ++ drop (mostTargets - 1) ts)) ≡ place x Nothing (take n ts)
   removed-at p e =
       let s = stands-at x (take n ts) p e .without in
       rw (at-most-same (n - 1) (omega arith), ← s, ← add-one p) (first-removed ts n p full small (held-below x n ts p e))
@@ -121,13 +121,13 @@ module _ (ts : List Target) (n : ℕ) (full : length ts ≡ 64) (small : n ≤ 6
   pub removed-none : (p : ℕ) → spotFrom 0 x (take n ts) ≡ Before p → take n ts ≡ place x Nothing (take n ts)
   removed-none p e = belongs-at x (take n ts) p e .without
 
-pub listed-is : (ts : Targets) (n : ℕ) → n ≡ atMost64 (ts .count) → take n (ts .entries) ≡ listed ts
+pub listed-is : (ts : Targets) (n : ℕ) → n ≡ atMost (ts .count) → take n (ts .entries) ≡ listed ts
 unfolding listed
 listed-is ts n e = rw e
 
 -- of the targets themselves: n stand, and s is what a search of them gives
-module _ (ts : Targets) (x n : ℕ) (full : length (ts .entries) ≡ 64) (e : n ≡ atMost64 (ts .count)) (s : Spot) (q : s ≡ spotFrom 0 x (take n (ts .entries))) where
-  small : n ≤ 64
+module _ (ts : Targets) (x n : ℕ) (full : length (ts .entries) ≡ mostTargets) (e : n ≡ atMost (ts .count)) (s : Spot) (q : s ≡ spotFrom 0 x (take n (ts .entries))) where
+  small : n ≤ mostTargets
   small = rw e (at-most-le (ts .count))
 
   list : take n (ts .entries) ≡ listed ts
@@ -139,24 +139,21 @@ module _ (ts : Targets) (x n : ℕ) (full : length (ts .entries) ≡ 64) (e : n 
   pub found-is : (p : ℕ) → s ≡ At p → There (getD (ts .entries) p absent .held) ≡ find x (listed ts)
   found-is p h = sym (found-at (ts .entries) n full small x p (sym q ∙ h)) ∙ ap (find x) list
 
-  pub found-not : (p : ℕ) → s ≡ Before p → Nothing ≡ find x (listed ts)
-  found-not p h = sym (found-none (ts .entries) n full small x p (sym q ∙ h)) ∙ ap (find x) list
-
   pub stored-is : (p : ℕ) (h : Held) → s ≡ At p
-      → listed (record { entries = set (ts .entries) p (record { identity = x; held = h }); count = n }) ≡ take 64 (place x (There h) (listed ts))
+      → listed (record { entries = set (ts .entries) p (record { identity = x; held = h }); count = n }) ≡ take mostTargets (place x (There h) (listed ts))
   unfolding listed
   stored-is p h k =
-      stored-at (ts .entries) n full small x p h (sym q ∙ k) ∙ ap (λ (l : List Target). take 64 (place x (There h) l)) list
+      stored-at (ts .entries) n full small x p h (sym q ∙ k) ∙ ap (λ (l : List Target). take mostTargets (place x (There h) l)) list
 
   pub inserted-is : (p : ℕ) (h : Held) → s ≡ Before p
-      → listed (record { entries = take 64 (insertAt p (record { identity = x; held = h }) (ts .entries)); count = n + 1 })
-      ≡ take 64 (place x (There h) (listed ts))
+      → listed (record { entries = take mostTargets (insertAt p (record { identity = x; held = h }) (ts .entries)); count = n + 1 })
+      ≡ take mostTargets (place x (There h) (listed ts))
   unfolding listed
   inserted-is p h k =
-      inserted-at (ts .entries) n full small x p h (sym q ∙ k) ∙ ap (λ (l : List Target). take 64 (place x (There h) l)) list
+      inserted-at (ts .entries) n full small x p h (sym q ∙ k) ∙ ap (λ (l : List Target). take mostTargets (place x (There h) l)) list
 
   pub removed-is : (p : ℕ) → s ≡ At p
-      → listed (record { entries = take 64 (removeAt p (ts .entries) ++ drop 63 (ts .entries)); count = n - 1 }) ≡ place x Nothing (listed ts)
+      → listed (record { entries = take mostTargets (removeAt p (ts .entries) ++ drop (mostTargets - 1) (ts .entries)); count = n - 1 }) ≡ place x Nothing (listed ts)
   unfolding listed
   removed-is p k = removed-at (ts .entries) n full small x p (sym q ∙ k) ∙ ap (place x Nothing) list
 
@@ -169,23 +166,19 @@ take-bared zero l = refl
 take-bared (suc n) [] = refl
 take-bared (suc n) (t ∷ l) = ap (λ (k : List Target). bareTarget t ∷ k) (take-bared n l)
 
-pub bared-is : (ts : Targets) (out : List Target) → out ≡ map bareTarget (ts .entries) → listed (record { entries = out; count = ts .count }) ≡ bared (listed ts)
-unfolding listed
-bared-is ts out e = rw e (take-bared (atMost64 (ts .count)) (ts .entries))
+pub counted-is : (ts : List Target) (n : ℕ) → length ts ≡ mostTargets → atMost n ≡ length (take (atMost n) ts)
+counted-is ts n full = sym (length-take-le (atMost n) ts (omega (arith, at-most-le n)))
 
-pub counted-is : (ts : List Target) (n : ℕ) → length ts ≡ 64 → atMost64 n ≡ length (take (atMost64 n) ts)
-counted-is ts n full = sym (length-take-le (atMost64 n) ts (omega (arith, at-most-le n)))
-
-pub listed-le : (ts : Targets) → length (listed ts) ≤ 64
+pub listed-le : (ts : Targets) → length (listed ts) ≤ mostTargets
 unfolding listed
-listed-le ts = omega (arith, length-take (atMost64 (ts .count)) (ts .entries), min-le-left (atMost64 (ts .count)) (length (ts .entries)), at-most-le (ts .count))
+listed-le ts = omega (arith, length-take (atMost (ts .count)) (ts .entries), min-le-left (atMost (ts .count)) (length (ts .entries)), at-most-le (ts .count))
 
 -- what is placed without growth fits the array
-pub removed-fits : (i : ℕ) (ts : Targets) → place i Nothing (listed ts) ≡ take 64 (place i Nothing (listed ts))
-removed-fits i ts = sym (take-all 64 (place i Nothing (listed ts)) (omega (arith, length-place-nothing i (listed ts), listed-le ts)))
+pub removed-fits : (i : ℕ) (ts : Targets) → place i Nothing (listed ts) ≡ take mostTargets (place i Nothing (listed ts))
+removed-fits i ts = sym (take-all mostTargets (place i Nothing (listed ts)) (omega (arith, length-place-nothing i (listed ts), listed-le ts)))
 
-pub bared-fits : (ts : Targets) → bared (listed ts) ≡ take 64 (bared (listed ts))
-bared-fits ts = sym (take-all 64 (bared (listed ts)) (omega (arith, length-bared (listed ts), listed-le ts)))
+pub bared-fits : (ts : Targets) → bared (listed ts) ≡ take mostTargets (bared (listed ts))
+bared-fits ts = sym (take-all mostTargets (bared (listed ts)) (omega (arith, length-bared (listed ts), listed-le ts)))
 
-pub absent-fits : (i : ℕ) (ts : Targets) → find i (listed ts) ≡ Nothing → listed ts ≡ take 64 (place i Nothing (listed ts))
+pub absent-fits : (i : ℕ) (ts : Targets) → find i (listed ts) ≡ Nothing → listed ts ≡ take mostTargets (place i Nothing (listed ts))
 absent-fits i ts e = sym (place-absent i (listed ts) e) ∙ removed-fits i ts

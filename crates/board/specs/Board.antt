@@ -1,6 +1,6 @@
 -- The plain board of document 01, and what a list of calls makes of it. Definitions only.
 -- It is fed the arguments of the calls alone and puts the questions to them and to its own state.
-use Prim.Native.Nat.{ℕ, _+_, _%_, _^_}
+use Prim.Native.Nat.{ℕ, _+_, _%_}
 use mathlib.Core.List.{List, [], _∷_}
 use mathlib.Core.Option.{Option, some, none}
 use lib.Ieee.{Float}
@@ -18,7 +18,7 @@ use Rattle.board.specs.declared.call.Call.{Call}
 use Rattle.board.specs.declared.call.Call.the-variants.{Report, Withdraw, OwnShip, Track, Solve}
 use Rattle.board.specs.declared.call.Answer.{Answer}
 use Rattle.board.specs.declared.call.Answer.the-variants.{Done, Solved, Refused}
-use Rattle.board.specs.Line.{counts}
+use Rattle.board.specs.Line.{counts, totals}
 use Rattle.board.specs.Targets.{find, place, bared}
 use Rattle.board.specs.Call.{vehicle, ends, named}
 use Rattle.board.specs.Questions.{ask, radiusAsked, identityAsked, askFix, askEnds, heldAsked, roomAsked, see, solved}
@@ -108,7 +108,7 @@ targetsAfter c a l = put (named c) (leaves c a) (swept c l)
 -- "adds its three counts to the total", "a 32-bit number that returns to 0 after 2^32 - 1"
 abbrev pub raised : Answer → ℕ → ℕ
 raised Done n = n
-raised (Solved l) n = (n + counts l) % 2 ^ 32
+raised (Solved l) n = (n + counts l) % totals
 raised (Refused r) n = n
 
 unfoldable pub accepted : Plain → Call → Answer → Plain

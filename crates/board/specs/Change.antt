@@ -18,7 +18,7 @@ use Rattle.board.specs.declared.state.Tracked.{Tracked}
 use Rattle.board.specs.declared.call.Call.{Call}
 use Rattle.board.specs.declared.call.Call.the-variants.{Report, Withdraw, OwnShip, Track, Solve}
 use Rattle.board.specs.declared.call.Answer.{Answer}
-use Rattle.board.specs.Targets.{find, spotFrom, bareTarget, atMost64, listed}
+use Rattle.board.specs.Targets.{mostTargets, find, spotFrom, bareTarget, atMost, listed}
 use Rattle.board.specs.Board.{answer, targetsAfter}
 
 -- the identity that a call names, or 0
@@ -31,7 +31,7 @@ nameOf (Solve i) = i
 
 -- a search of the first n entries: where the identity stands or would, and what is held under it
 pub record Seeks (es : List Target) (n x : ℕ) (r : Sought) : Type 0 where
-  pub long : length es ≡ 64
+  pub long : length es ≡ mostTargets
   pub spot-is : r .spot ≡ spotFrom 0 x (take n es)
   pub found-is : r .found ≡ find x (take n es)
 
@@ -46,8 +46,8 @@ Answers r o t x n c a =
 unfoldable pub entriesAfter : Change → List Target → List Target
 entriesAfter Stays es = es
 entriesAfter (Stores p t) es = set es p t
-entriesAfter (Inserts p t) es = take 64 (take p es ++ t ∷ drop p es)
-entriesAfter (Removes p) es = take 64 ((take p es ++ drop (p + 1) es) ++ drop 63 es)
+entriesAfter (Inserts p t) es = take mostTargets (take p es ++ t ∷ drop p es)
+entriesAfter (Removes p) es = take mostTargets ((take p es ++ drop (p + 1) es) ++ drop (mostTargets - 1) es)
 entriesAfter Sweeps es = map bareTarget es
 
 abbrev pub countAfter : Change → ℕ → ℕ
@@ -59,7 +59,7 @@ countAfter Sweeps n = n
 
 -- the targets after a change
 abbrev pub changed : Change → Targets → Targets
-changed r ts = record { entries = entriesAfter r (ts .entries); count = countAfter r (atMost64 (ts .count)) }
+changed r ts = record { entries = entriesAfter r (ts .entries); count = countAfter r (atMost (ts .count)) }
 
 -- a target that takes the place of another takes that of one of the first n
 unfoldable pub Within : Change → ℕ → Type 0
@@ -78,5 +78,5 @@ placing (Before p) t = Inserts p t
 -- then stands for the plain board's targets after the call
 unfoldable pub Changes : Call → Answer → Spot → Found → Change → Type 0
 Changes c a s x r =
-    (ts : Targets) → length (ts .entries) ≡ 64 → s ≡ spotFrom 0 (nameOf c) (listed ts) → x ≡ find (nameOf c) (listed ts)
-    → Within r (atMost64 (ts .count)) × (listed (changed r ts) ≡ take 64 (targetsAfter c a (listed ts)))
+    (ts : Targets) → length (ts .entries) ≡ mostTargets → s ≡ spotFrom 0 (nameOf c) (listed ts) → x ≡ find (nameOf c) (listed ts)
+    → Within r (atMost (ts .count)) × (listed (changed r ts) ≡ take mostTargets (targetsAfter c a (listed ts)))

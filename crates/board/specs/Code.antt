@@ -7,7 +7,7 @@ use Rattle.board.specs.declared.state.Board.{Board}
 use Rattle.board.specs.declared.board.Answered.{Answered}
 use Rattle.board.specs.declared.call.Call.{Call}
 use Rattle.board.specs.declared.call.Answer.{Answer}
-use Rattle.board.specs.Targets.{listed}
+use Rattle.board.specs.Targets.{mostTargets, listed}
 use Rattle.board.specs.Board.{Plain, fresh, answer, after, run, answers}
 use Rattle.board.specs.Demand3.{Demand3}
 
@@ -17,7 +17,7 @@ plain b = record { radius = b .radius; own = b .own; track = b .track; targets =
 
 -- a plain board whose targets past the 64th are dropped
 unfoldable pub cut : Plain → Plain
-cut p = record { radius = p .radius; own = p .own; track = p .track; targets = take 64 (p .targets); total = p .total }
+cut p = record { radius = p .radius; own = p .own; track = p .track; targets = take mostTargets (p .targets); total = p .total }
 
 -- what the contract of each call ensures: the answer is the plain board's, and the board handed back stands for the plain board after
 -- the call

@@ -1,5 +1,5 @@
 -- Demand 3, as one claim about a list of calls from a fresh board. Definitions only.
-use Prim.Native.Nat.{ℕ, _≤_, _%_, _^_}
+use Prim.Native.Nat.{ℕ, _≤_, _%_}
 use mathlib.Core.List.{List, [], _∷_}
 use mathlib.Core.Logic.{_↔_}
 use mathlib.Core.Path.{_≡_}
@@ -7,6 +7,7 @@ use lib.Ieee.{Float}
 use lib.ListN.{length}
 use Rattle.jord.specs.declared.vehicle.Vehicle.{Vehicle}
 use Rattle.spherical.specs.Outcome.{countOf}
+use Rattle.spherical.specs.Walk.{mostSteps}
 use Rattle.spherical.specs.declared.outcome.Outcome.{Outcome}
 use Rattle.board.specs.declared.line.Line.{Line}
 use Rattle.board.specs.declared.targets.Lined.{Lined}
@@ -16,7 +17,8 @@ use Rattle.board.specs.declared.targets.Found.the-variants.{There}
 use Rattle.board.specs.declared.call.Call.{Call}
 use Rattle.board.specs.declared.call.Answer.{Answer}
 use Rattle.board.specs.declared.call.Answer.the-variants.{Done, Solved, Refused}
-use Rattle.board.specs.Targets.{find, RisingFrom}
+use Rattle.board.specs.Line.{totals}
+use Rattle.board.specs.Targets.{mostTargets, find, RisingFrom}
 use Rattle.board.specs.Board.{Plain, fresh, run, answers}
 use Rattle.board.specs.Asking.{mean}
 use Rattle.board.specs.History.{heard, handedOut, LastReported, lastLine}
@@ -25,7 +27,7 @@ use Rattle.board.specs.Exchange.{identities, exchanged, MayExchange}
 -- "Each step count in a line is from 1 to 50"
 pub record CountFits (o : Outcome) : Type 0 where
   pub least : 1 ≤ countOf o
-  pub most : countOf o ≤ 50
+  pub most : countOf o ≤ mostSteps
 
 pub record CountsFit (l : Line) : Type 0 where
   pub closest : CountFits (l .closest)
@@ -69,7 +71,7 @@ pub record Demand3 (r : Float) (cs : List Call) : Type 0 where
   -- "Targets stand in rising identity", from 1
   pub rising : RisingFrom 1 (run (fresh r) cs .targets)
   -- at most 64 of them
-  pub at-most-64 : length (run (fresh r) cs .targets) ≤ 64
+  pub at-most-64 : length (run (fresh r) cs .targets) ≤ mostTargets
   -- "a target stands on the board exactly when it has an accepted report and was not withdrawn since", "with its last accepted report"
   pub stands : (i : ℕ) (v : Vehicle) → Stands (run (fresh r) cs) i v ↔ LastReported i v (heard (fresh r) cs)
   -- "and the line, or none, that the plain board gives": that of its last solve, if nothing took it away since
@@ -79,7 +81,7 @@ pub record Demand3 (r : Float) (cs : List Call) : Type 0 where
   -- and in each line that stands on the board
   pub counts-standing : (i : ℕ) (h : Held) → Holds (run (fresh r) cs) i h → LineFits (h .line)
   -- "the step total equals, modulo 2^32, the sum of all counts handed out"
-  pub total : run (fresh r) cs .total ≡ handedOut (answers (fresh r) cs) % 2 ^ 32
+  pub total : run (fresh r) cs .total ≡ handedOut (answers (fresh r) cs) % totals
   -- "Where such a list names at most 64 identities, take any list made from it by exchanging neighbours that name different targets,
   -- however many times"
-  pub exchange : length (identities cs) ≤ 64 → (ps : List ℕ) → MayExchange ps cs → Alike r cs ps
+  pub exchange : length (identities cs) ≤ mostTargets → (ps : List ℕ) → MayExchange ps cs → Alike r cs ps

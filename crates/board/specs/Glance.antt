@@ -19,7 +19,7 @@ use Rattle.board.specs.declared.glance.Hint.{Hint}
 use Rattle.board.specs.declared.glance.Hint.the-variants.{Stays, Puts, Sweeps, Unclear}
 use Rattle.board.specs.Call.{vehicle}
 use Rattle.board.specs.Questions.{ask, identityAsked, askFix, askEnds}
-use Rattle.board.specs.Targets.{atMost64, identityOf, bareTarget, spotIn}
+use Rattle.board.specs.Targets.{mostTargets, atMost, identityOf, bareTarget, spotIn}
 use Rattle.board.specs.Board.{answer, after, ownAfter, trackAfter}
 use Rattle.board.specs.Code.{plain}
 use Rattle.board.specs.History.{accepts}
@@ -38,8 +38,8 @@ boardOf s es = record { radius = s .radius; own = s .own; track = s .track; targ
 
 -- the targets that stand have these identities
 pub record Under (s : Setting) (ids : List ℕ) (es : List Target) : Type 0 where
-  pub long : length es ≡ 64
-  pub same : take (atMost64 (s .count)) ids ≡ map identityOf (take (atMost64 (s .count)) es)
+  pub long : length es ≡ mostTargets
+  pub same : take (atMost (s .count)) ids ≡ map identityOf (take (atMost (s .count)) es)
 
 -- a call is answered so by a board, and leaves one that stands for the same as another
 pub record Turns (b : Board) (c : Call) (a : Answer) (left : Board) : Type 0 where
@@ -49,7 +49,7 @@ pub record Turns (b : Board) (c : Call) (a : Answer) (left : Board) : Type 0 whe
 -- what is told holds of every board of the setting whose targets have the identities; that nothing is told is always right
 unfoldable pub Glanced : Setting → List ℕ → Call → Hint → Type 0
 Glanced s ids c (Stays a) = (es : List Target) → Under s ids es → Turns (boardOf s es) c a (boardOf s es)
-Glanced s ids c (Puts p t) = (es : List Target) → Under s ids es → (p < 64) × Under s ids (set es p t) × Turns (boardOf s es) c Done (boardOf s (set es p t))
+Glanced s ids c (Puts p t) = (es : List Target) → Under s ids es → (p < mostTargets) × Under s ids (set es p t) × Turns (boardOf s es) c Done (boardOf s (set es p t))
 Glanced s ids c (Sweeps q) =
     (es : List Target) → Under s ids es → Under q ids (map bareTarget es) × Turns (boardOf s es) c Done (boardOf q (map bareTarget es))
 Glanced s ids c Unclear = Unit {0}
@@ -67,7 +67,7 @@ putAt (Before p) i f = Unclear
 
 -- a report: its questions of identity and fix, then its place among the first n identities, 64 at most
 unfoldable pub atReport : ℕ → List ℕ → ℕ → Fix → Hint
-atReport n ids i f = unlessRefused (ask (identityAsked i) (askFix f Done)) (putAt (spotIn 0 i (take (atMost64 n) ids)) i f)
+atReport n ids i f = unlessRefused (ask (identityAsked i) (askFix f Done)) (putAt (spotIn 0 i (take (atMost n) ids)) i f)
 
 -- the setting after an accepted own ship or track
 abbrev pub setBy : Call → Setting → Setting

@@ -1,5 +1,5 @@
 -- The line of a target, and its counts. Definitions only.
-use Prim.Native.Nat.{ℕ, _+_}
+use Prim.Native.Nat.{ℕ, _+_, _^_}
 use lib.Ieee.{Float}
 use Rattle.jord.specs.Length.{fromMetres}
 use Rattle.spherical.specs.GreatCircle as circle
@@ -31,3 +31,7 @@ solveLine radius v = lineOn (sphere.new (fromMetres radius)) v
 -- "its three counts", summed
 unfoldable pub counts : Line → ℕ
 counts l = countOf (l .closest) + countOf (l .meeting) + countOf (l .longest)
+
+-- "a 32-bit number that returns to 0 after 2^32 - 1": the total is counted modulo this
+abbrev pub totals : ℕ
+totals = 2 ^ 32

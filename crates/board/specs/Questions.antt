@@ -28,6 +28,7 @@ use Rattle.board.specs.declared.questions.Seen.{Seen}
 use Rattle.board.specs.declared.questions.Seen.the-variants.{Lacks, Sees}
 use Rattle.board.specs.Call.{position}
 use Rattle.board.specs.Line.{solveLine}
+use Rattle.board.specs.Targets.{mostTargets}
 
 -- "the first no gives its number": the question's no, or what the questions after it come to
 abbrev pub ask : Said → Answer → Answer
@@ -103,7 +104,7 @@ heldAsked (There h) = Yes
 
 -- "Report: is the identity held, or are fewer than 64 held? 9"
 abbrev pub roomAsked : Found → ℕ → Said
-roomAsked Nothing n = unless (ltb n 64) BoardFull
+roomAsked Nothing n = unless (ltb n mostTargets) BoardFull
 roomAsked (There h) n = Yes
 
 -- "does the board hold this identity? 8. Solve: has an own ship been set? 10. A track? 11": the first that lacks, or what a solve sees

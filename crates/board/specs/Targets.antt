@@ -18,6 +18,10 @@ use Rattle.board.specs.declared.targets.Found.the-variants.{Nothing, The
 use Rattle.board.specs.declared.targets.Spot.{Spot}
 use Rattle.board.specs.declared.targets.Spot.the-variants.{At, Before}
 
+-- "are fewer than 64 held?": the room of a board
+abbrev pub mostTargets : ℕ
+mostTargets = 64
+
 -- ---- on lists
 
 -- what the list holds under an identity
@@ -55,19 +59,19 @@ RisingFrom n (t ∷ l) = (n ≤ t .identity) × RisingFrom (suc (t .identity)) l
 -- ---- on the array
 
 -- a count, or 64 where it says more
-abbrev pub atMost64 : ℕ → ℕ
-atMost64 n = cond (ltb n 64) n 64
+abbrev pub atMost : ℕ → ℕ
+atMost n = cond (ltb n mostTargets) n mostTargets
 
 -- the targets that stand in an array
 unfoldable pub listed : Targets → List Target
-listed ts = take (atMost64 (ts .count)) (ts .entries)
+listed ts = take (atMost (ts .count)) (ts .entries)
 
 abbrev pub identityOf : Target → ℕ
 identityOf t = t .identity
 
 -- the identities of the first n entries, then zeros
 unfoldable pub identities : List Target → ℕ → List ℕ
-identities es n = map identityOf (take n es) ++ drop n (replicate 64 0)
+identities es n = map identityOf (take n es) ++ drop n (replicate mostTargets 0)
 
 -- where an identity stands among identities, or before which place it would; i stand before the list
 unfoldable pub spotIn : ℕ → ℕ → List ℕ → Spot
@@ -88,4 +92,4 @@ blank =
 
 -- "Fresh: only the radius": no target stands
 abbrev pub empty : Targets
-empty = record { entries = replicate 64 blank; count = 0 }
+empty = record { entries = replicate mostTargets blank; count = 0 }

@@ -6,9 +6,11 @@ ghost use lib.ListN.{length, take};
 ghost use Rattle.spherical.specs.Mean as means;
 ghost use Rattle.board.specs.Asking as spec;
 ghost use Rattle.board.specs.Code.{plain};
+ghost use Rattle.board.specs.Targets.{mostTargets};
 use crate::call::Refusal;
 use crate::state::Board;
 use crate::targets::Lined;
+use crate::targets::MOST_TARGETS;
 use crate::targets::Target;
 use crate::targets::least;
 use jord::positions::NVector;
@@ -31,9 +33,9 @@ enum Best {
 
 // The parts of 64 positions.
 struct Parts {
-    xs: [f64; 64],
-    ys: [f64; 64],
-    zs: [f64; 64],
+    xs: [f64; MOST_TARGETS],
+    ys: [f64; MOST_TARGETS],
+    zs: [f64; MOST_TARGETS],
 }
 
 // The total of steps.
@@ -74,14 +76,14 @@ fn mean_of(ps: Parts, n: usize) -> Mean
 }
 
 // The parts of the positions of all entries, taken out once: numbers can be lent, an array of targets is copied at each call.
-fn parts_of(entries: [Target; 64]) -> Parts
-    ensures { λ r. ⌜ (r ≡ spec.partsOf entries) × (length entries ≡ 64) ⌝ }
+fn parts_of(entries: [Target; MOST_TARGETS]) -> Parts
+    ensures { λ r. ⌜ (r ≡ spec.partsOf entries) × (length entries ≡ mostTargets) ⌝ }
 {
-    let mut xs = [0.0; 64];
-    let mut ys = [0.0; 64];
-    let mut zs = [0.0; 64];
+    let mut xs = [0.0; MOST_TARGETS];
+    let mut ys = [0.0; MOST_TARGETS];
+    let mut zs = [0.0; MOST_TARGETS];
     let mut i = 0;
-    while i < 64 {
+    while i < MOST_TARGETS {
         let v = vector_of(entries[i]);
         xs[i] = v.x;
         ys[i] = v.y;
@@ -187,8 +189,8 @@ pub fn pick(board: Board) -> Choice
 }
 
 // The least meeting time of the first n targets.
-fn soonest(entries: [Target; 64], n: usize) -> Best
-    requires { ⌜ n ≤ 64 ⌝ }
+fn soonest(entries: [Target; MOST_TARGETS], n: usize) -> Best
+    requires { ⌜ n ≤ mostTargets ⌝ }
     ensures { λ r. ⌜ r ≡ means.fold spec.better Best.Missing (take n entries) ⌝ }
 {
     let mut b = Best::Missing;

@@ -6,6 +6,7 @@ ghost use mathlib.Core.Bool.{not};
 ghost use Prim.Native.Nat.{_≤_};
 ghost use Rattle.board.specs.Code.{plain, Demanded};
 ghost use Rattle.board.specs.History.{accepts};
+ghost use Rattle.board.specs.Targets.{mostTargets};
 use crate::call::Answer;
 use crate::call::Call;
 use crate::call::Coordinates;
@@ -29,6 +30,7 @@ use crate::targets::Change;
 use crate::targets::Found;
 use crate::targets::Held;
 use crate::targets::Lined;
+use crate::targets::MOST_TARGETS;
 use crate::targets::Sought;
 use crate::targets::Spot;
 use crate::targets::Target;
@@ -242,8 +244,8 @@ fn total_after(answer: Answer, total: u32) -> u32
 }
 
 // Where an identity stands among the first n entries, or before which it would, and what is held under it.
-fn seek_in(entries: [Target; 64], n: usize, identity: u16) -> Sought
-    requires { ⌜ n ≤ 64 ⌝ }
+fn seek_in(entries: [Target; MOST_TARGETS], n: usize, identity: u16) -> Sought
+    requires { ⌜ n ≤ mostTargets ⌝ }
     ensures { λ r. ⌜ code.Seeks entries n identity r ⌝ }
 {
     let mut i = 0;
@@ -311,7 +313,7 @@ fn placing(spot: Spot, t: Target) -> Change
 
 // How many targets stand after a change, where n stood.
 fn count_after(change: Change, n: usize) -> usize
-    requires { ⌜ n ≤ 64 ⌝ }
+    requires { ⌜ n ≤ mostTargets ⌝ }
     ensures { λ r. ⌜ r ≡ code.countAfter change n ⌝ }
 {
     match change {

@@ -18,6 +18,7 @@ use crate::state::Own;
 use crate::state::Tracked;
 use crate::targets::Held;
 use crate::targets::Lined;
+use crate::targets::MOST_TARGETS;
 use crate::targets::Spot;
 use crate::targets::Target;
 use crate::targets::Targets;
@@ -61,7 +62,7 @@ pub fn setting_of(board: Board) -> Setting
 }
 
 // The board of a setting and entries.
-pub fn board_of(setting: Setting, entries: [Target; 64]) -> Board
+pub fn board_of(setting: Setting, entries: [Target; MOST_TARGETS]) -> Board
     ensures { λ r. ⌜ r ≡ spec.boardOf setting entries ⌝ }
 {
     let own = setting.own;

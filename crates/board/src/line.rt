@@ -1,6 +1,6 @@
 // The line that a solve makes of what it sees.
 ghost use mathlib.Core.Path.{_≡_};
-ghost use Prim.Native.Nat.{_+_, _%_, _^_};
+ghost use Prim.Native.Nat.{_+_, _%_};
 ghost use Rattle.board.specs.Line as spec;
 use jord::length::Length;
 use jord::positions::NVector;
@@ -66,7 +66,7 @@ pub fn solve_line(radius: f64, scene: Scene) -> Line
 
 // The total with the three counts of a line; it returns to 0 after 2^32 - 1.
 pub fn raise(total: u32, line: Line) -> u32
-    ensures { λ r. ⌜ r ≡ (total + spec.counts line) % 2 ^ 32 ⌝ }
+    ensures { λ r. ⌜ r ≡ (total + spec.counts line) % spec.totals ⌝ }
 {
     let closest = line.closest;
     let meeting = line.meeting;

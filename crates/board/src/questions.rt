@@ -11,6 +11,7 @@ use crate::line::solve_line;
 use crate::state::Own;
 use crate::state::Tracked;
 use crate::targets::Found;
+use crate::targets::MOST_TARGETS;
 use float::bits::magnitude;
 use jord::positions::NVector;
 use spherical::sphere::Sphere;
@@ -173,7 +174,7 @@ pub fn room_asked(found: Found, count: usize) -> Said
     ensures { λ r. ⌜ r ≡ spec.roomAsked found count ⌝ }
 {
     match found {
-        Found::Nothing => unless(count < 64, Refusal::BoardFull),
+        Found::Nothing => unless(count < MOST_TARGETS, Refusal::BoardFull),
         Found::There(_) => Said::Yes,
     }
 }

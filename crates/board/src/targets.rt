@@ -1,8 +1,8 @@
 // The targets of a board, in rising identity: the first of 64 places.
 ghost use mathlib.Core.Path.{_≡_};
 ghost use mathlib.Core.List.{_∷_, _++_, map};
-ghost use Prim.Native.Nat.{_+_, _≤_};
-ghost use lib.ListN.{length, take, drop, set};
+ghost use Prim.Native.Nat.{_+_, _-_, _≤_};
+ghost use lib.ListN.{length, take, drop};
 ghost use Rattle.board.specs.Targets as spec;
 use crate::line::Line;
 use jord::angle::Angle;
@@ -10,6 +10,12 @@ use jord::positions::NVector;
 use jord::speed::Speed;
 use jord::vec3::Vec3;
 use jord::vehicle::Vehicle;
+
+// The room of a board.
+pub const MOST_TARGETS: usize = 64;
+
+// The last place of that room.
+const LAST: usize = MOST_TARGETS - 1;
 
 // A line, or none.
 pub enum Lined {
@@ -31,7 +37,7 @@ pub struct Target {
 
 // The targets that stand: the first `count` entries, all of them where it says more.
 pub struct Targets {
-    pub entries: [Target; 64],
+    pub entries: [Target; MOST_TARGETS],
     pub count: usize,
 }
 
@@ -78,32 +84,32 @@ pub fn empty() -> Targets
     };
     let blank = Target { identity: 0, held };
     Targets {
-        entries: [blank; 64],
+        entries: [blank; MOST_TARGETS],
         count: 0,
     }
 }
 
 // A count, or 64 where it says more.
 pub fn least(count: usize) -> usize
-    ensures { λ r. ⌜ r ≡ spec.atMost64 count ⌝ }
+    ensures { λ r. ⌜ r ≡ spec.atMost count ⌝ }
 {
-    if count < 64 { count } else { 64 }
+    if count < MOST_TARGETS { count } else { MOST_TARGETS }
 }
 
 // The identities of the targets that stand, then zeros.
-pub fn identities(targets: Targets) -> [u16; 64]
-    ensures { λ r. ⌜ (r ≡ spec.identities (targets .entries) (spec.atMost64 (targets .count))) × (length (targets .entries) ≡ 64) ⌝ }
+pub fn identities(targets: Targets) -> [u16; MOST_TARGETS]
+    ensures { λ r. ⌜ (r ≡ spec.identities (targets .entries) (spec.atMost (targets .count))) × (length (targets .entries) ≡ spec.mostTargets) ⌝ }
 {
     let entries = targets.entries;
     identities_of(entries, least(targets.count))
 }
 
 // The identities of the first n entries, then zeros.
-fn identities_of(entries: [Target; 64], n: usize) -> [u16; 64]
-    requires { ⌜ n ≤ 64 ⌝ }
-    ensures { λ r. ⌜ (r ≡ spec.identities entries n) × (length entries ≡ 64) ⌝ }
+fn identities_of(entries: [Target; MOST_TARGETS], n: usize) -> [u16; MOST_TARGETS]
+    requires { ⌜ n ≤ spec.mostTargets ⌝ }
+    ensures { λ r. ⌜ (r ≡ spec.identities entries n) × (length entries ≡ spec.mostTargets) ⌝ }
 {
-    let mut out = [0u16; 64];
+    let mut out = [0u16; MOST_TARGETS];
     let mut i = 0;
     while i < n {
         out[i] = entries[i].identity;
@@ -114,7 +120,7 @@ fn identities_of(entries: [Target; 64], n: usize) -> [u16; 64]
 
 // Where an identity stands among the first of these, at most 64, or before which it would.
 pub fn seek(ids: &[u16], count: usize, identity: u16) -> Spot
-    ensures { λ r. ⌜ r ≡ spec.spotIn 0 identity (take (spec.atMost64 count) (now (ids .entry))) ⌝ }
+    ensures { λ r. ⌜ r ≡ spec.spotIn 0 identity (take (spec.atMost count) (now (ids .entry))) ⌝ }
 {
     let m = least(count);
     let n = if m < ids.len() { m } else { ids.len() };
@@ -133,16 +139,16 @@ pub fn seek(ids: &[u16], count: usize, identity: u16) -> Spot
 }
 
 // t in place p, and what stood there and after it one place on. The last falls off.
-pub fn inserted(entries: [Target; 64], p: usize, t: Target) -> [Target; 64]
-    ensures { λ r. ⌜ r ≡ take 64 (take p entries ++ t ∷ drop p entries) ⌝ }
+pub fn inserted(entries: [Target; MOST_TARGETS], p: usize, t: Target) -> [Target; MOST_TARGETS]
+    ensures { λ r. ⌜ r ≡ take spec.mostTargets (take p entries ++ t ∷ drop p entries) ⌝ }
 {
-    if 64 <= p {
+    if MOST_TARGETS <= p {
         return entries;
     }
     let mut out = entries;
     out[p] = t;
     let mut i = p + 1;
-    while i < 64 {
+    while i < MOST_TARGETS {
         out[i] = entries[i - 1];
         i += 1;
     }
@@ -150,15 +156,15 @@ pub fn inserted(entries: [Target; 64], p: usize, t: Target) -> [Target; 64]
 }
 
 // Without what stood in place p, and what stood after it one place back. The last stands twice.
-pub fn closed(entries: [Target; 64], p: usize) -> [Target; 64]
-    ensures { λ r. ⌜ r ≡ take 64 ((take p entries ++ drop (p + 1) entries) ++ drop 63 entries) ⌝ }
+pub fn closed(entries: [Target; MOST_TARGETS], p: usize) -> [Target; MOST_TARGETS]
+    ensures { λ r. ⌜ r ≡ take spec.mostTargets ((take p entries ++ drop (p + 1) entries) ++ drop (spec.mostTargets - 1) entries) ⌝ }
 {
-    if 64 <= p {
+    if MOST_TARGETS <= p {
         return entries;
     }
     let mut out = entries;
     let mut i = p;
-    while i < 63 {
+    while i < LAST {
         out[i] = entries[i + 1];
         i += 1;
     }
@@ -197,12 +203,12 @@ fn bare(t: Target) -> Target
 }
 
 // Every entry without its line.
-pub fn bared(entries: [Target; 64]) -> [Target; 64]
+pub fn bared(entries: [Target; MOST_TARGETS]) -> [Target; MOST_TARGETS]
     ensures { λ r. ⌜ r ≡ map spec.bareTarget entries ⌝ }
 {
     let mut out = entries;
     let mut i = 0;
-    while i < 64 {
+    while i < MOST_TARGETS {
         out[i] = bare(entries[i]);
         i += 1;
     }

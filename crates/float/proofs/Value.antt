@@ -3,10 +3,10 @@ use mathlib.Core.Path.{_≡_, refl, sym, ap, _∙_, subst}
 use Prim.Native.Nat.{ℕ, zero, suc, _+_, _-_, _*_, _/_, _%_, _^_, _<_}
 use native.Mathlib.Nat.{mod-lt, mul-div-cancel}
 use native.Mathlib.Omega.{arith}
-use mathlib.Core.Bool.{Bool, true, false, not, cond}
+use mathlib.Core.Bool.{Bool, true, false, cond}
 use lib.Dec.{T, eqb, eqb·suc-zero}
 use lib.Pow.{pow-pos}
-use lib.Ieee.{Float, nan, inf, fin, binary64, odd, ofFields, ofBits, toBits, fits, size, isNan, up, down}
+use lib.Ieee.{Float, nan, inf, fin, binary64, odd, ofFields, ofBits, toBits, fits, size, up, down}
 use lib.Ieee.Bits.{ofBits-toBits}
 use lib.Ieee.Exact.{HasValue, odd-sign}
 use lib.Ieee.Fits.{down-pos}
@@ -29,12 +29,6 @@ pub same-value : (x y : Float) (s : Bool) (a : ℕ) → T (fits binary64 x) → 
 same-value x y s a f g v w = sym (ofBits-toBits binary64 x f) ∙ ap (ofBits binary64) (pattern-is x s a v ∙ sym (pattern-is y s a w)) ∙ ofBits-toBits binary64 y g
 
 -- ---- the parts of a finite value
-pub finite-not-nan : (x : Float) → T (finite x) → T (not (isNan x))
-unfolding isNan
-finite-not-nan nan t = t
-finite-not-nan (inf s) t = tt
-finite-not-nan (fin s m e) t = tt
-
 finite-magnitude : (x : Float) → T (finite x) → T (finite (magnitude x))
 finite-magnitude nan t = t
 finite-magnitude (inf s) t = t

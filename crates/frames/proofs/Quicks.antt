@@ -4,7 +4,7 @@ use mathlib.Core.Bool.{Bool, true, false}
 use mathlib.Core.List.{List}
 use mathlib.Core.Path.{_≡_, refl, sym, ap, _∙_}
 use lib.ListN.{length}
-use Rattle.board.specs.Targets.{identities, atMost64}
+use Rattle.board.specs.Targets.{mostTargets, identities, atMost}
 use Rattle.board.specs.Code.{plain}
 use Rattle.board.specs.Glance.{settingOf, boardOf, Under, Turns, Glanced, glance}
 use Rattle.board.proofs.Glances.{identities-first, length-identities, glanced}
@@ -32,13 +32,13 @@ unfolding sessionOf boardOf settingOf
 session-parts s q e = rw e
 
 -- the identities of a board's targets are those of its entries
-pub under-own : (q : Setting) (ts : Targets) (ids : List ℕ) → length (ts .entries) ≡ 64 → ts .count ≡ q .count
-    → ids ≡ identities (ts .entries) (atMost64 (ts .count)) → Under q ids (ts .entries)
+pub under-own : (q : Setting) (ts : Targets) (ids : List ℕ) → length (ts .entries) ≡ mostTargets → ts .count ≡ q .count
+    → ids ≡ identities (ts .entries) (atMost (ts .count)) → Under q ids (ts .entries)
 under-own q ts ids l k e =
-    record { long = l; same = rw (e, ← k) (identities-first (ts .entries) (atMost64 (ts .count)) l (at-most-le (ts .count))) }
+    record { long = l; same = rw (e, ← k) (identities-first (ts .entries) (atMost (ts .count)) l (at-most-le (ts .count))) }
 
-pub ids-long : (ts : Targets) (ids : List ℕ) → length (ts .entries) ≡ 64 → ids ≡ identities (ts .entries) (atMost64 (ts .count)) → length ids ≡ 64
-ids-long ts ids l e = ap length e ∙ length-identities (ts .entries) (atMost64 (ts .count)) l (at-most-le (ts .count))
+pub ids-long : (ts : Targets) (ids : List ℕ) → length (ts .entries) ≡ mostTargets → ids ≡ identities (ts .entries) (atMost (ts .count)) → length ids ≡ mostTargets
+ids-long ts ids l e = ap length e ∙ length-identities (ts .entries) (atMost (ts .count)) l (at-most-le (ts .count))
 
 -- ---- what is told of a frame
 

@@ -25,8 +25,8 @@ use Rattle.frames.specs.Quick.{sessionOf}
 use Rattle.frames.specs.Reply.{replyDigits}
 use Rattle.frames.specs.Session.{next, plainOf, Stepping}
 use Rattle.frames.specs.Whole.{newline, Asked, asked, Text}
-use Rattle.frames.specs.Line.{kept, least, NoNewline, part, Passes, EndsAt, Joined}
-use Rattle.frames.specs.Stream.{room, Model, added, stepped, asks, fedState, fedAsks, lastAsks, endAsks, view, PutLine, Answering, Feeding, Finishing}
+use Rattle.frames.specs.Line.{kept, least, part, Passes}
+use Rattle.frames.specs.Stream.{room, Model, stepped, asks, fedState, fedAsks, lastAsks, endAsks, PutLine, Answering, Finishing}
 use Rattle.frames.proofs.Pieces.{split, state-append, asks-append, added-cut, frame-cut}
 use Rattle.frames.proofs.Sizes.{reply-short}
 use Rattle.frames.proofs.Texts.{text-append, text-by, text-none, text-one}

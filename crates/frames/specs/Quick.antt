@@ -3,7 +3,7 @@ use Prim.Native.Nat.{ℕ, _<_}
 use mathlib.Core.Bool.{Bool, cond}
 use mathlib.Core.List.{List, map}
 use lib.ListN.{set}
-use Rattle.board.specs.Targets.{bareTarget}
+use Rattle.board.specs.Targets.{mostTargets, bareTarget}
 use Rattle.board.specs.Glance.{boardOf, Under, glance}
 use Rattle.board.specs.declared.call.Call.{Call}
 use Rattle.board.specs.declared.glance.Setting.{Setting}
@@ -30,7 +30,7 @@ unfoldable pub Quickly : Bool → Setting → List ℕ → Frame → Quick → T
 Quickly b s ids f (Stays y) = (es : List Target) → Under s ids es → Stepping (sessionOf b s es) f (record { session = sessionOf b s es; reply = y })
 Quickly b s ids f (Puts k p t) =
     (es : List Target) → Under s ids es
-    → (p < 64) × Under s ids (set es p t) × Stepping (sessionOf b s es) f (record { session = sessionOf b s (set es p t); reply = reply.Done k })
+    → (p < mostTargets) × Under s ids (set es p t) × Stepping (sessionOf b s es) f (record { session = sessionOf b s (set es p t); reply = reply.Done k })
 Quickly b s ids f (Sweeps k q) =
     (es : List Target) → Under s ids es
     → Under q ids (map bareTarget es) × Stepping (sessionOf b s es) f (record { session = sessionOf b q (map bareTarget es); reply = reply.Done k })

@@ -16,7 +16,7 @@ use Rattle.frames.specs.declared.stream.Answered.{Answered}
 use Rattle.frames.specs.declared.stream.Fed.{Fed}
 use Rattle.frames.specs.declared.stream.Stream.{Stream}
 use Rattle.frames.specs.Frame.{frameOf}
-use Rattle.frames.specs.Line.{kept, least}
+use Rattle.frames.specs.Line.{kept}
 use Rattle.frames.specs.Reply.{replyDigits, longestReply}
 use Rattle.frames.specs.Quick.{sessionOf}
 use Rattle.frames.specs.Session.{next, plainOf}

@@ -7,6 +7,7 @@ ghost use Rattle.frames.specs.Line.{least};
 ghost use Rattle.frames.specs.Whole.{Output};
 ghost use Rattle.frames.specs.Quick.{sessionOf};
 ghost use Rattle.frames.specs.Stream as spec;
+use board::targets::MOST_TARGETS;
 use crate::frame::Frame;
 use crate::frame::read;
 use crate::frame::read_known;
@@ -97,7 +98,7 @@ fn answer(s: Session, frame: Frame, out: &mut [u8], at: usize) -> Answered
 }
 
 // The session of a setting and entries.
-fn session_of(started: bool, setting: Setting, entries: [Target; 64]) -> Session
+fn session_of(started: bool, setting: Setting, entries: [Target; MOST_TARGETS]) -> Session
     ensures { λ r. ⌜ r ≡ sessionOf started setting entries ⌝ }
 {
     Session {

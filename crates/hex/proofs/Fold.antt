@@ -4,7 +4,7 @@ use mathlib.Core.List.{List}
 use mathlib.Core.Path.{_≡_, refl, sym, ap, ap₂, _∙_}
 use native.Mathlib.Nat.{add-zero, mod-lt, mod-eq-of-lt, lt-of-lt-of-le, mul-le-mul-left, mul-le-mul-right}
 use native.Mathlib.Omega.{arith}
-use lib.Bits.{bitAnd, and-block, and-mask, and-zero-r}
+use lib.Bits.{bitAnd, and-block, and-mask}
 use lib.ListN.{getD}
 use lib.Pow.{pow-pos, pow-mono, pow-add, split, high, low, shr-shr, field, mod-mod-pow, ones-lt}
 use Rattle.hex.specs.Hex.{lowOf, lowsAt, lowsOf}

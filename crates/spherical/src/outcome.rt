@@ -1,6 +1,7 @@
 // What a walk comes to in the answer, with a reason for every refusal.
 ghost use mathlib.Core.Path.{_≡_};
 ghost use Rattle.spherical.specs.Outcome as spec;
+use crate::walk::MOST_STEPS;
 use crate::walk::Walk;
 use duration::Span;
 
@@ -60,7 +61,7 @@ impl Outcome {
                 count,
             } => count,
             Outcome::ZeroDerivative { count } => count,
-            Outcome::NotConverged => 50,
+            Outcome::NotConverged => MOST_STEPS,
             Outcome::Negative { count } => count,
             Outcome::TooLong { count } => count,
         }

@@ -14,11 +14,14 @@ use jord::vehicle::Vehicle;
 // 1 millisecond in hours: a smaller correction ends the walk to the closest approach.
 const ONE_MILLI_HOURS: f64 = 1.0 / (3_600.0 * 1_000.0);
 
-// The steps of that walk, at most.
-const CPA_NR_MAX_ITERATIONS: u32 = 50;
+// The steps of a walk, at most.
+pub const MOST_STEPS: u32 = 50;
 
-// The steps of a walk to an intercept, at most.
-const INTERCEPT_NR_MAX_ITERATIONS: u32 = 50;
+// Those of the walk to the closest approach.
+const CPA_NR_MAX_ITERATIONS: u32 = MOST_STEPS;
+
+// Those of a walk to an intercept.
+const INTERCEPT_NR_MAX_ITERATIONS: u32 = MOST_STEPS;
 
 // A smaller correction, in seconds, ends a walk to an intercept.
 const INTERCEPT_NR_EPSILON: f64 = 1e-11;

@@ -1,7 +1,7 @@
 -- Each mask is the one that proofs/Fold.antt defines, by computation, so its laws join the digits level by level.
-use Prim.Native.Nat.{ℕ, _+_, _*_, _/_, _%_, _^_, _<_}
-use mathlib.Core.Path.{_≡_, sym, _∙_}
-use native.Mathlib.Nat.{zero-add, mod-eq-of-lt, mul-le-mul-right}
+use Prim.Native.Nat.{ℕ, _+_, _*_, _/_, _^_, _<_}
+use mathlib.Core.Path.{_≡_, _∙_}
+use native.Mathlib.Nat.{mod-eq-of-lt, mul-le-mul-right}
 use native.Mathlib.Omega.{arith}
 use lib.Bits.{bitAnd, and-le-r}
 use lib.Dec.{lit<}

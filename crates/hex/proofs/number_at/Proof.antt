@@ -1,5 +1,5 @@
 -- Digits alone are read by their low bits from the part that they fill, and anything else byte by byte.
-use mathlib.Core.Path.{_≡_, sym, ap, _∙_}
+use mathlib.Core.Path.{sym, ap, _∙_}
 use native.Mathlib.Omega.{arith}
 use Rattle.hex.specs.Hex.{hexAt}
 use Rattle.hex.proofs.Read.{hex-reads, part-length, number-part, lows-digits}

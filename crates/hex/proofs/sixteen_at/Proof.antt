@@ -1,6 +1,6 @@
 -- Sixteen digits are two halves of eight.
 use Prim.Native.Nat.{_+_}
-use mathlib.Core.Path.{_≡_, sym, _∙_}
+use mathlib.Core.Path.{sym, _∙_}
 use native.Mathlib.Omega.{arith}
 use Rattle.hex.proofs.Read.{lows-gone, lows-there, lows-reads, below, halves}
 use borrow.Author.Needs.{needs}

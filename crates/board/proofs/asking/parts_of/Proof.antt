@@ -14,28 +14,29 @@ use Rattle.board.specs.declared.targets.Target.{Target}
 use Rattle.board.proofs.Arrays.{absent, length-map, laid, laid-all}
 use Rattle.board.proofs.asking.parts_of.Statement.{statement}
 use Rattle.board.proofs.asking.parts_of.Tie as tie
+use Rattle.board.specs.Targets.{mostTargets}
 
 -- the first i numbers are those parts
 abbrev Laid : (Vec3 → Float) → List Target → ℕ → List Float → Type 0
-Laid part ts i out = out ≡ take i (map (λ t. part (vectorOf t)) ts) ++ drop i (replicate 64 zero)
+Laid part ts i out = out ≡ take i (map (λ t. part (vectorOf t)) ts) ++ drop i (replicate mostTargets zero)
 
-module _ (ts : List Target) (full : length ts ≡ 64) (i : ℕ) where
-  laid-on : i < 64 → (v : Vec3) → v ≡ vectorOf (getD ts i absent) → (part : Vec3 → Float) (out : List Float) → Laid part ts i out → Laid part ts (i + 1) (set out i (part v))
+module _ (ts : List Target) (full : length ts ≡ mostTargets) (i : ℕ) where
+  laid-on : i < mostTargets → (v : Vec3) → v ≡ vectorOf (getD ts i absent) → (part : Vec3 → Float) (out : List Float) → Laid part ts i out → Laid part ts (i + 1) (set out i (part v))
   laid-on h v g part out e =
-      laid (map (λ t. part (vectorOf t)) ts) (replicate 64 zero) out i (part (vectorOf absent)) (part v) (omega (arith, length-map (λ t. part (vectorOf t)) ts)) (omega (arith, length-replicate {A = Float} 64 zero)) e
+      laid (map (λ t. part (vectorOf t)) ts) (replicate mostTargets zero) out i (part (vectorOf absent)) (part v) (omega (arith, length-map (λ t. part (vectorOf t)) ts)) (omega (arith, length-replicate {A = Float} mostTargets zero)) e
       (List·getD-map (λ t. part (vectorOf t)) ts i absent ∙ ap part (sym g))
 
-  laid-out : i ≡ 64 → (part : Vec3 → Float) (out : List Float) → Laid part ts i out → out ≡ map (λ t. part (vectorOf t)) ts
+  laid-out : i ≡ mostTargets → (part : Vec3 → Float) (out : List Float) → Laid part ts i out → out ≡ map (λ t. part (vectorOf t)) ts
   laid-out h part out e =
-      laid-all (map (λ t. part (vectorOf t)) ts) (replicate 64 zero) out i 64 h (length-replicate {A = Float} 64 zero) e
-      ∙ take-all 64 (map (λ t. part (vectorOf t)) ts) (omega (arith, length-map (λ t. part (vectorOf t)) ts))
+      laid-all (map (λ t. part (vectorOf t)) ts) (replicate mostTargets zero) out i mostTargets h (length-replicate {A = Float} mostTargets zero) e
+      ∙ take-all mostTargets (map (λ t. part (vectorOf t)) ts) (omega (arith, length-map (λ t. part (vectorOf t)) ts))
 
 abbrev Inv-loop : tie.InvT-loop
 Inv-loop ts xs₀ ys₀ zs₀ i₀ xs ys zs i =
-    (i ≤ 64) × (length ts ≡ 64) × Laid (λ v. v .x) ts i xs × Laid (λ v. v .y) ts i ys × Laid (λ v. v .z) ts i zs
+    (i ≤ mostTargets) × (length ts ≡ mostTargets) × Laid (λ v. v .x) ts i xs × Laid (λ v. v .y) ts i ys × Laid (λ v. v .z) ts i zs
 
 abbrev μ-loop : tie.MeasureT-loop
-μ-loop ts xs₀ ys₀ zs₀ i₀ xs ys zs i = 64 - i
+μ-loop ts xs₀ ys₀ zs₀ i₀ xs ys zs i = mostTargets - i
 
 loop-holds : tie.Need-loop-holds Inv-loop μ-loop
 loop-holds c = search needs

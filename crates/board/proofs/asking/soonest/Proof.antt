@@ -11,10 +11,11 @@ use Rattle.board.proofs.Loops.{fold-on, fold-out}
 use Rattle.board.proofs.Arrays.{absent}
 use Rattle.board.proofs.asking.soonest.Statement.{statement}
 use Rattle.board.proofs.asking.soonest.Tie as tie
+use Rattle.board.specs.Targets.{mostTargets}
 
 abbrev Inv-loop : tie.InvT-loop
 Inv-loop n entries b₀ i₀ b i =
-    (i ≤ n) × (length entries ≡ 64) × (fold better Missing (take n entries) ≡ fold better b (drop i (take n entries)))
+    (i ≤ n) × (length entries ≡ mostTargets) × (fold better Missing (take n entries) ≡ fold better b (drop i (take n entries)))
 
 abbrev μ-loop : tie.MeasureT-loop
 μ-loop n entries b₀ i₀ b i = n - i

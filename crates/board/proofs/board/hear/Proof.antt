@@ -7,7 +7,7 @@ use mathlib.Core.Path.{_≡_, refl, sym, subst, _∙_}
 use borrow.Author.Tests.{not-true, not-false}
 use borrow.Author.Needs.{needs}
 use Rattle.board.specs.declared.targets.Change.{Change}
-use Rattle.board.specs.Targets.{atMost64, listed}
+use Rattle.board.specs.Targets.{mostTargets, atMost, listed}
 use Rattle.board.specs.Code.{plain}
 use Rattle.board.specs.Change.{entriesAfter, Within}
 use Rattle.board.proofs.Slots.{at-most-le}
@@ -49,7 +49,7 @@ enum-known-change : tie.Need-enum-known-change
 enum-known-change c = search needs
 
 -- a target that takes the place of another takes that of one of the entries
-place-below : (c : tie.After-known-told) → c .before .change .given .0 .0 < 64
+place-below : (c : tie.After-known-told) → c .before .change .given .0 .0 < mostTargets
 unfolding Within
 place-below c =
     let d = c .before .before .before in
@@ -57,7 +57,7 @@ place-below c =
     let k = d .before .before .before .before .seek-in .ensures in
     let s = sought-is (a .board .targets) _ _ _ _ k (d .before .before .before .before .before .before .least .ensures) (d .before .before .before .before .before .name-of .ensures) in
     let w = within-is (a .board) (a .call) _ _ _ _ (k .long) (s .0) (s .1) (d .change-of .ensures) in
-    let v = subst (λ (r : Change). Within r (atMost64 (a .board .targets .count))) (c .before .change .given .1) w in
+    let v = subst (λ (r : Change). Within r (atMost (a .board .targets .count))) (c .before .change .given .1) w in
     omega (arith, v, at-most-le (a .board .targets .count))
 
 mul-entries : tie.Need-mul-entries

@@ -4,7 +4,7 @@ use native.Mathlib.Omega.{arith}
 use mathlib.Core.Path.{_≡_, sym}
 use lib.ListN.{length, take, drop}
 use borrow.Author.Needs.{needs}
-use Rattle.board.specs.Targets.{spotFrom}
+use Rattle.board.specs.Targets.{mostTargets, spotFrom}
 use Rattle.board.proofs.Slots.{found-at, found-none}
 use Rattle.board.proofs.Changes.{entry-below, entry-same, entry-above, entry-none}
 use Rattle.board.proofs.board.seek_in.Statement.{statement}
@@ -12,7 +12,7 @@ use Rattle.board.proofs.board.seek_in.Tie as tie
 
 abbrev Inv-loop : tie.InvT-loop
 Inv-loop n identity entries i₀ i =
-    (i ≤ n) × (n ≤ 64) × (length entries ≡ 64) × (spotFrom 0 identity (take n entries) ≡ spotFrom i identity (drop i (take n entries)))
+    (i ≤ n) × (n ≤ mostTargets) × (length entries ≡ mostTargets) × (spotFrom 0 identity (take n entries) ≡ spotFrom i identity (drop i (take n entries)))
 
 abbrev μ-loop : tie.MeasureT-loop
 μ-loop n identity entries i₀ i = n - i

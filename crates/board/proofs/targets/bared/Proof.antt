@@ -6,17 +6,17 @@ use mathlib.Core.List.{_++_, map}
 use lib.Seq.{take-all}
 use lib.ListN.{List·getD-map, length, take, drop}
 use borrow.Author.Needs.{needs}
-use Rattle.board.specs.Targets.{bareTarget}
+use Rattle.board.specs.Targets.{mostTargets, bareTarget}
 use Rattle.board.proofs.Arrays.{absent, length-map, laid, laid-all}
 use Rattle.board.proofs.targets.bared.Statement.{statement}
 use Rattle.board.proofs.targets.bared.Tie as tie
 
 abbrev Inv-loop : tie.InvT-loop
 Inv-loop ts out₀ i₀ out i =
-    (i ≤ 64) × (length ts ≡ 64) × (out ≡ take i (map bareTarget ts) ++ drop i ts)
+    (i ≤ mostTargets) × (length ts ≡ mostTargets) × (out ≡ take i (map bareTarget ts) ++ drop i ts)
 
 abbrev μ-loop : tie.MeasureT-loop
-μ-loop ts out₀ i₀ out i = 64 - i
+μ-loop ts out₀ i₀ out i = mostTargets - i
 
 loop-holds : tie.Need-loop-holds Inv-loop μ-loop
 loop-holds c = search needs
@@ -45,7 +45,7 @@ loop-less c = search needs
 loop-again : tie.Need-loop-again Inv-loop μ-loop
 loop-again c =
     let a = c .before .before .before .before .args in
-    let l : length (map bareTarget (a .t1)) ≡ 64 = length-map bareTarget (a .t1) ∙ c .before .before .before .loop .inv .1 in (
+    let l : length (map bareTarget (a .t1)) ≡ mostTargets = length-map bareTarget (a .t1) ∙ c .before .before .before .loop .inv .1 in (
       search needs,
       search needs,
       laid (map bareTarget (a .t1)) (a .t1) _ _ absent _ (omega arith) (omega arith) (c .before .before .before .loop .inv .2) (List·getD-map bareTarget (a .t1) (c .before .before .before .loop .i) absent ∙ sym (c .bare .ensures)),
@@ -54,8 +54,8 @@ loop-again c =
 returns : tie.Need-returns Inv-loop μ-loop
 returns c =
     let a = c .before .before .args in
-    let l : length (map bareTarget (a .t1)) ≡ 64 = length-map bareTarget (a .t1) ∙ c .before .loop .inv .1 in
-    laid-all (map bareTarget (a .t1)) (a .t1) _ (c .before .loop .i) 64 (omega arith) (c .before .loop .inv .1) (c .before .loop .inv .2) ∙ take-all 64 (map bareTarget (a .t1)) (omega arith)
+    let l : length (map bareTarget (a .t1)) ≡ mostTargets = length-map bareTarget (a .t1) ∙ c .before .loop .inv .1 in
+    laid-all (map bareTarget (a .t1)) (a .t1) _ (c .before .loop .i) mostTargets (omega arith) (c .before .loop .inv .1) (c .before .loop .inv .2) ∙ take-all mostTargets (map bareTarget (a .t1)) (omega arith)
 
 pub bared-spec : {M : Type 1} → statement M
 bared-spec =

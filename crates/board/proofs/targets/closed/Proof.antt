@@ -9,23 +9,24 @@ use borrow.Author.Needs.{needs}
 use Rattle.board.proofs.Arrays.{removeAt, absent, laid, whole, length-removing, removing, removed-at}
 use Rattle.board.proofs.targets.closed.Statement.{statement}
 use Rattle.board.proofs.targets.closed.Tie as tie
+use Rattle.board.specs.Targets.{mostTargets}
 
 abbrev Inv-loop : tie.InvT-loop
 Inv-loop p ts out₀ i₀ out i =
-    (p ≤ i) × (i ≤ 63) × (length ts ≡ 64) × (out ≡ take i (removeAt p ts) ++ drop i ts)
+    (p ≤ i) × (i ≤ (mostTargets - 1)) × (length ts ≡ mostTargets) × (out ≡ take i (removeAt p ts) ++ drop i ts)
 
 abbrev μ-loop : tie.MeasureT-loop
-μ-loop p ts out₀ i₀ out i = 63 - i
+μ-loop p ts out₀ i₀ out i = (mostTargets - 1) - i
 
 returns : tie.Need-returns Inv-loop μ-loop
 returns c =
     let a = c .before .args in
-    whole (a .t1) (drop (a .p + 1) (a .t1) ++ drop 63 (a .t1)) 64 (a .p) (search needs) (c .if1 .taken) ∙ ap (take 64) (sym (append-assoc (take (a .p) (a .t1)) (drop (a .p + 1) (a .t1)) (drop 63 (a .t1))))
+    whole (a .t1) (drop (a .p + 1) (a .t1) ++ drop (mostTargets - 1) (a .t1)) mostTargets (a .p) (search needs) (c .if1 .taken) ∙ ap (take mostTargets) (sym (append-assoc (take (a .p) (a .t1)) (drop (a .p + 1) (a .t1)) (drop (mostTargets - 1) (a .t1))))
 
 loop-holds : tie.Need-loop-holds Inv-loop μ-loop
 loop-holds c =
     let a = c .before .args in
-    let l : length (a .t1) ≡ 64 = search needs in
+    let l : length (a .t1) ≡ mostTargets = search needs in
     (search needs, search needs, search needs, removing (a .t1) (a .p) (omega arith))
 
 add-out : tie.Need-add-out Inv-loop μ-loop
@@ -62,9 +63,9 @@ loop-again c =
 returns-2 : tie.Need-returns-2 Inv-loop μ-loop
 returns-2 c =
     let a = c .before .before .before .args in
-    let e : c .before .loop .i ≡ 63 = omega arith in
-    let h : length (removeAt (a .p) (a .t1)) ≡ 63 = omega (arith, length-removing (a .t1) (a .p) (omega arith)) in
-    c .before .loop .inv .3 ∙ rw (e, take-all 63 (removeAt (a .p) (a .t1)) (omega arith), take-all 64 (removeAt (a .p) (a .t1) ++ drop 63 (a .t1)) (rw (length-append, length-drop) (omega arith)))
+    let e : c .before .loop .i ≡ (mostTargets - 1) = omega arith in
+    let h : length (removeAt (a .p) (a .t1)) ≡ (mostTargets - 1) = omega (arith, length-removing (a .t1) (a .p) (omega arith)) in
+    c .before .loop .inv .3 ∙ rw (e, take-all (mostTargets - 1) (removeAt (a .p) (a .t1)) (omega arith), take-all mostTargets (removeAt (a .p) (a .t1) ++ drop (mostTargets - 1) (a .t1)) (rw (length-append, length-drop) (omega arith)))
 
 pub closed-spec : {M : Type 1} → statement M
 closed-spec =

@@ -6,14 +6,14 @@ use mathlib.Core.List.{_++_, map}
 use lib.Seq.{take-all, getD-take, length-take-le}
 use lib.ListN.{List·getD-map, length, take, drop, replicate, length-replicate}
 use borrow.Author.Needs.{needs}
-use Rattle.board.specs.Targets.{identityOf, identities}
+use Rattle.board.specs.Targets.{mostTargets, identityOf, identities}
 use Rattle.board.proofs.Arrays.{absent, length-map, laid}
 use Rattle.board.proofs.targets.identities_of.Statement.{statement}
 use Rattle.board.proofs.targets.identities_of.Tie as tie
 
 abbrev Inv-loop : tie.InvT-loop
 Inv-loop n ts out₀ i₀ out i =
-    (i ≤ n) × (length ts ≡ 64) × (out ≡ take i (map identityOf (take n ts)) ++ drop i (replicate 64 0))
+    (i ≤ n) × (length ts ≡ mostTargets) × (out ≡ take i (map identityOf (take n ts)) ++ drop i (replicate mostTargets 0))
 
 abbrev μ-loop : tie.MeasureT-loop
 μ-loop n ts out₀ i₀ out i = n - i
@@ -47,7 +47,7 @@ loop-again c =
     let l : length (map identityOf (take n ts)) ≡ n = length-map identityOf (take n ts) ∙ length-take-le n ts (omega arith) in (
       search needs,
       search needs,
-      laid (map identityOf (take n ts)) (replicate 64 0) _ i 0 _ (omega arith) (omega (arith, length-replicate {A = ℕ} 64 0)) (c .before .loop .inv .2)
+      laid (map identityOf (take n ts)) (replicate mostTargets 0) _ i 0 _ (omega arith) (omega (arith, length-replicate {A = ℕ} mostTargets 0)) (c .before .loop .inv .2)
           (List·getD-map identityOf (take n ts) i absent ∙ ap identityOf (getD-take n ts i absent (omega arith))),
     )
 

@@ -8,18 +8,19 @@ use borrow.Author.Needs.{needs}
 use Rattle.board.proofs.Arrays.{absent, laid, laid-all, whole, front, length-inserting, inserting, inserted-at}
 use Rattle.board.proofs.targets.inserted.Statement.{statement}
 use Rattle.board.proofs.targets.inserted.Tie as tie
+use Rattle.board.specs.Targets.{mostTargets}
 
 abbrev Inv-loop : tie.InvT-loop
 Inv-loop p ts out₀ i₀ out i =
-    (p < i) × (i ≤ 64) × (length ts ≡ 64) × (out ≡ take i (take (p + 1) out₀ ++ drop p ts) ++ drop i ts)
+    (p < i) × (i ≤ mostTargets) × (length ts ≡ mostTargets) × (out ≡ take i (take (p + 1) out₀ ++ drop p ts) ++ drop i ts)
 
 abbrev μ-loop : tie.MeasureT-loop
-μ-loop p ts out₀ i₀ out i = 64 - i
+μ-loop p ts out₀ i₀ out i = mostTargets - i
 
 returns : tie.Need-returns Inv-loop μ-loop
 returns c =
     let a = c .before .args in
-    whole (a .t1) (a .t ∷ drop (a .p) (a .t1)) 64 (a .p) (search needs) (c .if1 .taken)
+    whole (a .t1) (a .t ∷ drop (a .p) (a .t1)) mostTargets (a .p) (search needs) (c .if1 .taken)
 
 mul-out : tie.Need-mul-out Inv-loop μ-loop
 mul-out c = search needs
@@ -33,7 +34,7 @@ add-i c = search needs
 loop-holds : tie.Need-loop-holds Inv-loop μ-loop
 loop-holds c =
     let a = c .before .args in
-    let l : length (a .t1) ≡ 64 = search needs in
+    let l : length (a .t1) ≡ mostTargets = search needs in
     (search needs, search needs, search needs, inserting (a .t1) (a .p) (omega arith) (a .t))
 
 sub-out : tie.Need-sub-out Inv-loop μ-loop
@@ -70,7 +71,7 @@ loop-again c =
 returns-2 : tie.Need-returns-2 Inv-loop μ-loop
 returns-2 c =
     let a = c .before .before .before .args in
-    laid-all (take (a .p + 1) (set (a .t1) (a .p) (a .t)) ++ drop (a .p) (a .t1)) (a .t1) _ (c .before .loop .i) 64 (omega arith) (c .before .loop .inv .2) (c .before .loop .inv .3) ∙ ap (take 64) (front (a .t1) (a .p) (omega arith) (a .t))
+    laid-all (take (a .p + 1) (set (a .t1) (a .p) (a .t)) ++ drop (a .p) (a .t1)) (a .t1) _ (c .before .loop .i) mostTargets (omega arith) (c .before .loop .inv .2) (c .before .loop .inv .3) ∙ ap (take mostTargets) (front (a .t1) (a .p) (omega arith) (a .t))
 
 pub inserted-spec : {M : Type 1} → statement M
 inserted-spec =

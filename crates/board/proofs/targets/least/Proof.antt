@@ -2,12 +2,13 @@
 use borrow.Author.Tests.{lt-ltb, le-ltb}
 use Rattle.board.proofs.targets.least.Statement.{statement}
 use Rattle.board.proofs.targets.least.Tie as tie
+use Rattle.board.specs.Targets.{mostTargets}
 
 returns : tie.Need-returns
-returns c = rw (lt-ltb _ 64 (c .if1 .taken))
+returns c = rw (lt-ltb _ mostTargets (c .if1 .taken))
 
 returns-2 : tie.Need-returns-2
-returns-2 c = rw (le-ltb _ 64 (c .if1 .left))
+returns-2 c = rw (le-ltb _ mostTargets (c .if1 .left))
 
 pub least-spec : {M : Type 1} → statement M
 least-spec = tie.close (tie.spec returns returns-2)

@@ -7,7 +7,7 @@ use mathlib.Core.Path.{_≡_, refl, sym, ap, _∙_}
 use lib.ListN.{length, take, drop}
 use lib.Seq.{take-all}
 use borrow.Author.Needs.{needs}
-use Rattle.board.specs.Targets.{spotIn, atMost64}
+use Rattle.board.specs.Targets.{mostTargets, spotIn, atMost}
 use Rattle.board.proofs.Arrays.{search-on, search-held, search-free, search-out}
 use Rattle.board.proofs.Slots.{at-most-le}
 use Rattle.board.proofs.targets.seek.Statement.{statement}
@@ -15,7 +15,7 @@ use Rattle.board.proofs.targets.seek.Tie as tie
 
 abbrev Inv-loop : tie.InvT-loop
 Inv-loop ids count identity m n i₀ i =
-    (i ≤ n) × (n ≤ 64) × (n ≤ length ids) × (take n ids ≡ take m ids) × (spotIn 0 identity (take n ids) ≡ spotIn i identity (drop i (take n ids)))
+    (i ≤ n) × (n ≤ mostTargets) × (n ≤ length ids) × (take n ids ≡ take m ids) × (spotIn 0 identity (take n ids) ≡ spotIn i identity (drop i (take n ids)))
 
 abbrev μ-loop : tie.MeasureT-loop
 μ-loop ids count identity m n i₀ i = n - i
@@ -27,7 +27,7 @@ loop-holds : tie.Need-loop-holds Inv-loop μ-loop
 loop-holds c =
     let ids = c .before .before .before .args .ids .now in
     let m = c .before .least .result in
-    let small : m ≤ 64 = rw (c .before .least .ensures) (at-most-le (c .before .before .before .args .count)) in
+    let small : m ≤ mostTargets = rw (c .before .least .ensures) (at-most-le (c .before .before .before .args .count)) in
     elim (c .if1 .came) [
       | inl z ↦ rw (z .1) (omega arith, small, omega (arith, z .0 .taken), refl, refl)
       | inr z ↦
@@ -35,8 +35,8 @@ loop-holds c =
     ]
 
 -- what is searched is what the contract names
-searched : (x m n count : ℕ) (ids : List ℕ) → take n ids ≡ take m ids → m ≡ atMost64 count
-    → spotIn 0 x (take n ids) ≡ spotIn 0 x (take (atMost64 count) ids)
+searched : (x m n count : ℕ) (ids : List ℕ) → take n ids ≡ take m ids → m ≡ atMost count
+    → spotIn 0 x (take n ids) ≡ spotIn 0 x (take (atMost count) ids)
 searched x m n count ids e k = ap (spotIn 0 x) (e ∙ ap (λ (j : ℕ). take j ids) k)
 
 mul-k : tie.Need-mul-k Inv-loop μ-loop

@@ -4,7 +4,7 @@ use mathlib.Core.Bool.{Bool}
 use mathlib.Core.List.{List, []}
 use Prim.Native.Nat.{ℕ, _+_, _-_, _<_, _≤_}
 use mathlib.Core.Logic.{inl, inr}
-use mathlib.Core.Path.{_≡_, refl, sym, ap, _∙_, subst}
+use mathlib.Core.Path.{_≡_, sym, ap, _∙_, subst}
 use native.Mathlib.Omega.{arith}
 use lib.ListN.{length, take, drop, getD, length-drop}
 use lib.Seq.{length-take-le}
@@ -21,12 +21,13 @@ use Rattle.frames.proofs.Quicks.{session-parts, under-own, ids-long, qu
 use Rattle.frames.proofs.Turns.{Passed, passed-bytes, passed-step, passed-whole, answering-by, passed-from}
 use Rattle.frames.proofs.stream.lines.Statement.{statement}
 use Rattle.frames.proofs.stream.lines.Tie as tie
+use Rattle.board.specs.Targets.{mostTargets}
 
 abbrev Inv-loop : tie.InvT-loop
 Inv-loop s xs page₀ started₀ setting₀ entries₀ ids₀ at₀ i₀ page started setting entries ids at i =
     Under setting ids entries
     × Passed (record { board = plainOf (sessionOf started₀ setting₀ entries₀); part = [] }) xs page₀ page (sessionOf started setting entries) [] at i
-    × (length ids ≡ 64)
+    × (length ids ≡ mostTargets)
 
 abbrev μ-loop : tie.MeasureT-loop
 μ-loop s xs page₀ started₀ setting₀ entries₀ ids₀ at₀ i₀ page started setting entries ids at i = length xs - i
@@ -98,7 +99,7 @@ looked c =
     subst (Quickly (l .started) (l .setting) (l .ids) f) (sym (c .look .ensures)) (quickly (l .started) (l .setting) (l .ids) f)
 
 -- a place that it gives is one of the entries
-place-below : (c : tie.After-known-told2 Inv-loop μ-loop) → c .before .kind .given .0 .1 .0 < 64
+place-below : (c : tie.After-known-told2 Inv-loop μ-loop) → c .before .kind .given .0 .1 .0 < mostTargets
 unfolding Quickly
 place-below c =
     let l = c .before .before .before .before .before .before .before .before .before .before .before .loop in
@@ -144,8 +145,8 @@ loop-less c = let p = c .before .before .before .before .before .before .before 
 -- what the loop keeps, of parts that are equal
 same-parts : {m : Model} {xs page₀ page page′ ids ids′ : List ℕ} {b b′ : Bool} {s s′ : Setting} {es es′ : List Target} {at at′ i : ℕ}
     → page′ ≡ page → b′ ≡ b → s′ ≡ s → es′ ≡ es → ids′ ≡ ids → at′ ≡ at
-    → Under s ids es → Passed m xs page₀ page (sessionOf b s es) [] at i → length ids ≡ 64
-    → Under s′ ids′ es′ × Passed m xs page₀ page′ (sessionOf b′ s′ es′) [] at′ i × (length ids′ ≡ 64)
+    → Under s ids es → Passed m xs page₀ page (sessionOf b s es) [] at i → length ids ≡ mostTargets
+    → Under s′ ids′ es′ × Passed m xs page₀ page′ (sessionOf b′ s′ es′) [] at′ i × (length ids′ ≡ mostTargets)
 same-parts p b s e i a u v k = rw (p, b, s, e, i, a) (u, v, k)
 
 loop-again : tie.Need-loop-again Inv-loop μ-loop
