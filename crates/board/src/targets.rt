@@ -93,7 +93,11 @@ pub fn empty() -> Targets
 pub fn least(count: usize) -> usize
     ensures { λ r. ⌜ r ≡ spec.atMost count ⌝ }
 {
-    if count < MOST_TARGETS { count } else { MOST_TARGETS }
+    if count < MOST_TARGETS {
+        count
+    } else {
+        MOST_TARGETS
+    }
 }
 
 // The identities of the targets that stand, then zeros.
