@@ -16,6 +16,7 @@ use board::board::track;
 use board::board::withdraw;
 use board::call::Answer;
 use board::state::Board;
+use board::targets::MOST_TARGETS;
 use jord::positions::NVector;
 use spherical::mean::Mean;
 
@@ -23,7 +24,7 @@ use spherical::mean::Mean;
 const EARTH: f64 = 6371000.8;
 
 // The most targets of a board.
-const HELD: u64 = 64;
+const HELD: u64 = MOST_TARGETS as u64;
 
 // The numbers of the calls that fill a board, and of the first that asks.
 const REPORT: u64 = 2;
@@ -76,8 +77,8 @@ fn of_answer(answer: Answer) -> u64 {
 fn of_mean(mean: Mean) -> u64 {
     match mean {
         Mean::Position(p) => of_position(p),
-        Mean::Empty => 16,
-        Mean::Antipodal => 17,
+        Mean::Empty => mean.number() as u64,
+        Mean::Antipodal => mean.number() as u64,
     }
 }
 

@@ -1,9 +1,11 @@
 // The source's constants that no function here uses, held to their definitions.
 ghost use mathlib.Core.Path.{_≡_};
 ghost use Rattle.jord.specs.Angle.{NEG-HALF-CIRCLE, DBL-EPSILON};
+ghost use Rattle.jord.specs.Length.{ZERO, MAX};
 ghost use Rattle.jord.specs.Mat33.{IDENTITY};
 ghost use Rattle.jord.specs.Vec3.{NEG-UNIT-X};
 use crate::angle::Angle;
+use crate::length::Length;
 use crate::mat33::Mat33;
 use crate::vec3::Vec3;
 
@@ -19,6 +21,20 @@ fn dbl_epsilon() -> Angle
     ensures { λ r. ⌜ r ≡ DBL-EPSILON ⌝ }
 {
     Angle::DBL_EPSILON
+}
+
+// No length.
+fn no_length() -> Length
+    ensures { λ r. ⌜ r ≡ ZERO ⌝ }
+{
+    Length::ZERO
+}
+
+// The greatest finite length.
+fn greatest_length() -> Length
+    ensures { λ r. ⌜ r ≡ MAX ⌝ }
+{
+    Length::MAX
 }
 
 // The identity matrix.
