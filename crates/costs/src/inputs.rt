@@ -2,10 +2,14 @@
 ghost use Prim.Native.Nat.{_<_};
 use board::call::Coordinates;
 use board::call::Fix;
+use board::targets::MOST_TARGETS;
 
-// One of 64 identities, which do not come in their order.
+// The most targets of a board.
+pub const HELD: u64 = MOST_TARGETS as u64;
+
+// One of so many identities, which do not come in their order.
 pub fn identity(turn: u64) -> u16 {
-    (turn % 64 * 40503 % 65521 + 1) as u16
+    (turn % HELD * 40503 % 65521 + 1) as u16
 }
 
 // A part of one.

@@ -1,4 +1,5 @@
 // Turns of one call, as a caller would write them. The board of a turn is the one that the turn before left.
+use crate::inputs::HELD;
 use crate::inputs::coordinates;
 use crate::inputs::fix;
 use crate::inputs::identity;
@@ -16,15 +17,11 @@ use board::board::track;
 use board::board::withdraw;
 use board::call::Answer;
 use board::state::Board;
-use board::targets::MOST_TARGETS;
 use jord::positions::NVector;
 use spherical::mean::Mean;
 
 // The earth's radius in metres.
 const EARTH: f64 = 6371000.8;
-
-// The most targets of a board.
-const HELD: u64 = MOST_TARGETS as u64;
 
 // The numbers of the calls that fill a board, and of the first that asks.
 const REPORT: u64 = 2;
