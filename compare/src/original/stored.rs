@@ -21,7 +21,7 @@ const WORKED: &str = "\
 const STREAM: u64 = 1 << 22;
 /// Identities of the drawn calls, more than a board holds, and how many calls.
 const NAMES: usize = 80;
-const DRAWN: usize = 1_000;
+const DRAWN: usize = 2_500;
 /// Numbers of digits about the longest frame.
 const LENGTHS: [usize; 6] = [0, 1, 97, 99, 100, 101];
 

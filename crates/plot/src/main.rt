@@ -3,6 +3,7 @@ ghost use mathlib.Core.Path.{_≡_};
 ghost use Prim.Native.Nat.{_≤_};
 ghost use lib.ListN.{length};
 ghost use Rattle.frames.specs.Stream.{view, fedState, room};
+ghost use Rattle.plot.specs.Way.{wayOf};
 use frames::stream::Stream;
 
 // How much is read at once. A larger piece than a pipe holds: a stream is handed on by value with each.
@@ -44,22 +45,27 @@ fn pour(s: Stream, xs: &[u8], page: &mut [u8]) -> Turned
     Turned { stream, way: ON }
 }
 
+// How to go on after a read of so many bytes: below zero it failed, and nothing is the end.
+fn way_of(got: isize) -> u8
+    ensures { λ r. ⌜ r ≡ wayOf got ⌝ }
+{
+    if got < 0 {
+        return FAILED;
+    }
+    if got > 0 {
+        return ON;
+    }
+    ENDED
+}
+
 // One read, and the answer to what came.
 fn turn(s: Stream, piece: &mut [u8], page: &mut [u8]) -> Turned
     requires { ⌜ room ≤ length (now page) ⌝ }
 {
     let got = libc::read(0, piece);
-    if got < 0 {
-        return Turned {
-            stream: s,
-            way: FAILED,
-        };
-    }
-    if got == 0 {
-        return Turned {
-            stream: s,
-            way: ENDED,
-        };
+    let way = way_of(got);
+    if way != ON {
+        return Turned { stream: s, way };
     }
     let n = io::count(got, piece);
     pour(s, &piece[..n], page)
