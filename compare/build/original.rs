@@ -34,10 +34,24 @@ const UNPUBLISHED: (&str, &str, &str) = ("spherical/minor_arc.rs", "{ChordLength
 /// Left out of the same file, for the same reason.
 const CUT_METHOD: &str = "    pub fn distance_to(";
 
-/// A second copy of one file, whose walks note what they do.
-const WATCHED: (&str, &str) = ("spherical/sphere.rs", "spherical/watched.rs");
-/// What stands in that file so many times, and the same with a note.
-const WATCHES: [(&str, &str, usize); 7] = [
+/// What stands in a file so many times, and what takes its place.
+type Change = (&'static str, &'static str, usize);
+
+/// The file of the walks.
+const WALKS: &str = "spherical/sphere.rs";
+/// Altered in it: request 2026-05 accepts a corrected time that equals the time before it too.
+const FAR: Change = (
+    "if fi.abs() < INTERCEPT_NR_EPSILON {",
+    "if fi.abs() < INTERCEPT_NR_EPSILON || ti1_secs == ti_secs {",
+    2,
+);
+
+/// A second copy of it, whose walks note what they do.
+const WATCHED: &str = "spherical/watched.rs";
+/// A third, which notes too and has the published rule.
+const BEFORE: &str = "spherical/before.rs";
+/// What stands in these copies, and the same with a note.
+const WATCHES: [Change; 7] = [
     ("move |t: f64| -> f64 {", "move |t: f64| -> f64 { watch::time(t);", 2),
     ("move |t_secs: f64| -> f64 {", "move |t_secs: f64| -> f64 { watch::time(t_secs);", 1),
     ("let fi = f / df;", "let fi = watch::correction(f / df);", 2),
@@ -66,11 +80,20 @@ pub fn transform(source: &Path, folder: &Path) {
         let module = transformed(file, &text);
         assert_eq!(foreign(&module), None, "{file} still calls a function of the platform");
         assert_eq!(module.lines().count(), text.lines().count(), "{file} has lost its lines");
-        if file == WATCHED.0 {
-            write(folder, WATCHED.1, watched(&module));
+        if file == WALKS {
+            write_walks(folder, &module);
+        } else {
+            write(folder, file, module);
         }
-        write(folder, file, module);
     }
+}
+
+/// The three copies of the file of the walks.
+fn write_walks(folder: &Path, published: &str) {
+    let far = replaced(published.to_owned(), &FAR);
+    write(folder, BEFORE, watched(published));
+    write(folder, WATCHED, watched(&far));
+    write(folder, WALKS, far);
 }
 
 fn write(folder: &Path, file: &str, module: String) {
@@ -99,11 +122,13 @@ fn line(text: &str) -> String {
 
 /// The module with the notes, each in the place meant for it.
 fn watched(module: &str) -> String {
-    let noted = WATCHES.iter().fold(module.to_owned(), |text, (theirs, ours, times)| {
-        assert_eq!(text.matches(theirs).count(), *times, "{theirs} is not there {times} times");
-        text.replace(theirs, ours)
-    });
-    WATCH_IN_SCOPE.to_owned() + &noted
+    WATCH_IN_SCOPE.to_owned() + &WATCHES.iter().fold(module.to_owned(), replaced)
+}
+
+/// A text with one change made, if it can be made as often as meant.
+fn replaced(text: String, (theirs, ours, times): &Change) -> String {
+    assert_eq!(text.matches(theirs).count(), *times, "{theirs} is not there {times} times");
+    text.replace(theirs, ours)
 }
 
 /// Without what needs an unpublished type.

@@ -17,8 +17,8 @@ published! { "": numbers angle length speed vec3 mat33 positions vehicle }
 
 pub mod spherical {
     published! { "spherical/": base great_circle minor_arc sphere }
-    // The second copy of sphere.rs.
-    published! { "spherical/": watched }
+    // The second and the third copy of sphere.rs.
+    published! { "spherical/": watched before }
 
     pub use base::Side;
     pub use great_circle::GreatCircle;

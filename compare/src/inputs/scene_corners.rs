@@ -71,7 +71,7 @@ const AT_SEA: [([f64; 4], [f64; 4]); 14] = [
     ([89.0, 0.0, 0.0, 8.0], [89.0, 180.0, 0.0, 8.0]),
     ([10.0, 20.0, 135.0, 0.2], [-70.0, 150.0, 33.0, 20.0]),
     ([10.0, 20.0, 135.0, 3.0], [10.0, 20.0, 135.0, 3.0]),
-    // 77 ends in 13: its time stands still, its times swing.
+    // 77 has a time that stands still; ends in 13, for its times swing.
     ([0.0, 0.0, 90.0, 3.0], [0.0, 6.0, 270.0, 1.0]),
     ([0.0, 0.0, 0.0, 2.0], [0.0, 1.0, 0.0, 1.0]),
     // 77 accepts on step 50; would accept on step 51.

@@ -1,4 +1,4 @@
-//! What the watched copy of sphere.rs notes of its last walk on this thread.
+//! What the watched copies of sphere.rs note of their last walk on this thread.
 //! Cells keep the notes cheap: `solves` times them.
 
 use crate::reference::TOO_MANY_SECONDS;
@@ -14,7 +14,6 @@ pub struct Notes {
     times: [Cell<f64>; KEPT],
     /// An intercept's last corrections.
     corrections: [Cell<f64>; KEPT],
-    still: Cell<bool>,
     flat: Cell<bool>,
     spent: Cell<bool>,
     accepted: Cell<Option<f64>>,
@@ -26,7 +25,6 @@ thread_local! {
             calls: Cell::new(0),
             times: [const { Cell::new(0.0) }; KEPT],
             corrections: [const { Cell::new(0.0) }; KEPT],
-            still: Cell::new(false),
             flat: Cell::new(false),
             spent: Cell::new(false),
             accepted: Cell::new(None),
@@ -49,11 +47,6 @@ impl Notes {
         self.corrections[call % KEPT].get()
     }
 
-    /// Whether a corrected time equalled the time before it.
-    pub fn stood_still(&self) -> bool {
-        self.still.get()
-    }
-
     /// Whether a derivative was zero.
     pub fn was_flat(&self) -> bool {
         self.flat.get()
@@ -74,7 +67,6 @@ impl Notes {
 pub fn begin() {
     NOTES.with(|notes| {
         notes.calls.set(0);
-        notes.still.set(false);
         notes.flat.set(false);
         notes.spent.set(false);
         notes.accepted.set(None);
@@ -99,10 +91,7 @@ pub fn time(t: f64) {
 #[inline]
 pub fn correction(correction: f64) -> f64 {
     NOTES.with(|notes| {
-        let last = notes.calls.get() % KEPT;
-        notes.corrections[last].set(correction);
-        let time = notes.times[last].get();
-        notes.still.set(notes.still.get() | (time - correction == time));
+        notes.corrections[notes.calls.get() % KEPT].set(correction);
     });
     correction
 }

@@ -84,13 +84,6 @@ impl Pursuit {
         seconds >= 0.0 && about[0] >= 0.0 && about[1] <= 0.0
     }
 
-    /// The meeting within a millisecond.
-    pub fn meeting_about(&self, seconds: f64) -> f64 {
-        let ends = [seconds - CLOSED, seconds + CLOSED];
-        let before = self.gap(ends[0]) > 0.0;
-        halved(ends, |t| (self.gap(t) > 0.0) == before)
-    }
-
     /// What the own ship lacks, in radians.
     fn gap(&self, seconds: f64) -> f64 {
         self.separation(seconds) - self.own_rate * seconds

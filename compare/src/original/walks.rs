@@ -1,9 +1,10 @@
 //! The walks: answers of the plain original, with the count and the kind of refusal that the
-//! watched copy notes. The two must agree wherever document 01's domain reaches.
+//! watched copy notes. The two must agree wherever document 01's domain reaches. What the rule
+//! before request 2026-05 answered, but for 13, must be answered again.
 
 use super::shapes::number;
 use crate::answer::{Answer, FLAT, NOT_ACCEPTED, NOT_ZERO_OR_MORE, TOO_LONG, Walk};
-use crate::jord::spherical::{GreatCircle, Sphere, watched};
+use crate::jord::spherical::{GreatCircle, Sphere, before, watched};
 use crate::jord::watch::{self, Notes};
 use crate::jord::{NVector, Speed, Vehicle};
 use crate::reference::{NANOSECONDS_AN_HOUR, TOO_MANY_NANOSECONDS, TOO_MANY_SECONDS};
@@ -18,12 +19,14 @@ pub fn time_to_cpa(sphere: Sphere, own: Vehicle, intruder: Vehicle) -> Walk {
 
 pub fn time_to_intercept(sphere: Sphere, from: NVector, speed: Speed, intruder: Vehicle) -> Walk {
     let watched = watched_intercept(sphere, from, speed, intruder);
-    agreed(watched, || sphere.time_to_intercept(from, speed, intruder))
+    let walk = agreed(watched, || sphere.time_to_intercept(from, speed, intruder));
+    kept(before_intercept(sphere, from, speed, intruder), walk)
 }
 
 pub fn max_time_to_intercept(sphere: Sphere, from: NVector, intruder: Vehicle) -> Walk {
     let watched = watched_longest(sphere, from, intruder);
-    agreed(watched, || sphere.max_time_to_intercept(from, intruder))
+    let walk = agreed(watched, || sphere.max_time_to_intercept(from, intruder));
+    kept(before_longest(sphere, from, intruder), walk)
 }
 
 pub fn watched_cpa(sphere: Sphere, own: Vehicle, intruder: Vehicle) -> Watched {
@@ -51,6 +54,32 @@ pub fn watched_longest(sphere: Sphere, from: NVector, intruder: Vehicle) -> Watc
 
 fn copy(sphere: Sphere) -> watched::Sphere {
     watched::Sphere::new(sphere.radius())
+}
+
+/// A walk to an intercept under the rule before request 2026-05.
+pub fn before_intercept(sphere: Sphere, from: NVector, speed: Speed, intruder: Vehicle) -> Walk {
+    watch::begin();
+    let duration = copy_before(sphere).time_to_intercept(from, speed, intruder);
+    watch::read(|notes| intercept(notes, duration))
+}
+
+/// The same of the walk to the longest.
+pub fn before_longest(sphere: Sphere, from: NVector, intruder: Vehicle) -> Walk {
+    watch::begin();
+    let duration = copy_before(sphere).max_time_to_intercept(from, intruder);
+    watch::read(|notes| intercept(notes, duration))
+}
+
+fn copy_before(sphere: Sphere) -> before::Sphere {
+    before::Sphere::new(sphere.radius())
+}
+
+/// The walk, once it is seen to be the one before, which may have lacked a time.
+fn kept(before: Walk, walk: Walk) -> Walk {
+    if before.number != NOT_ACCEPTED {
+        assert_eq!(walk, before, "an answer of the rule before is not kept");
+    }
+    walk
 }
 
 /// The watched walk, once the plain original has given the same; number 15 is outside the domain.

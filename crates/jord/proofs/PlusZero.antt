@@ -1,13 +1,14 @@
 -- 0.0 + x is x, but for -0, of which it makes +0. Assumes nothing.
 use mathlib.Core.Path.{_≡_, refl, sym, ap, _∙_}
-use Prim.Native.Nat.{ℕ, zero, suc, _-_, _*_, _^_, _<_}
+use Prim.Native.Nat.{ℕ, zero, suc, _*_, _^_, _<_}
 use native.Mathlib.Nat.{zero-mul, zero-add, mul-one, one-mul, sub-zero, mul-pos, zero-lt-suc, lt-irrefl}
 use native.Mathlib.Omega.{arith}
 use mathlib.Core.Bool.{Bool, true, false, cond}
-use lib.Dec.{T, ltb, eqb→eq, leb·suc-suc, leb·zero, eqb·suc-zero}
+use borrow.Author.Tests.{lt-ltb}
+use lib.Dec.{T, eqb→eq, eqb·suc-zero}
 use lib.IntN.{ℤ, pos, negsuc}
 use lib.Pow.{pow-pos, pow-lt}
-use lib.Ieee.{Float, nan, inf, fin, binary64, up, down, round, add, neg, eq, level, fits, ofBits, toBits}
+use lib.Ieee.{Float, nan, inf, fin, binary64, up, down, round, sum, add, neg, eq, level, fits, ofBits, toBits}
 use lib.Ieee.Exact.{round-exact}
 use lib.Ieee.Fits.{up-pos, down-pos, round-fits}
 use lib.Ieee.Scale.{round-same}
@@ -35,7 +36,7 @@ round-held s m e f =
 not-one : (n k : ℕ) → n ≡ 2 ^ suc k → n ≡ 1 → ⊥
 not-one n k p e = let h : 1 < 2 ^ suc k = pow-lt {i = 0} {j = suc k} (omega arith) in omega arith
 
-zero-exponent : (s : Bool) (e : ℤ) → T (fits binary64 (fin s zero e)) → e ≡ pos 0
+pub zero-exponent : (s : Bool) (e : ℤ) → T (fits binary64 (fin s zero e)) → e ≡ pos 0
 unfolding fits
 zero-exponent s (pos zero) f = refl
 zero-exponent s (pos (suc k)) f = absurd (not-one _ k (mul-one (2 ^ suc k)) (eqb→eq _ 1 f))
@@ -47,7 +48,7 @@ of-zero true = refl
 of-zero false = refl
 
 -- the other finite values are not zero
-above-zero : (m : ℕ) (e : ℤ) → 0 < suc m * up e
+pub above-zero : (m : ℕ) (e : ℤ) → 0 < suc m * up e
 above-zero m e = mul-pos (zero-lt-suc m) (up-pos e)
 
 not-zero : (s : Bool) (m : ℕ) (e : ℤ) → isMinusZero (fin s (suc m) e) ≡ false
@@ -59,15 +60,22 @@ not-zero true m e = rw (zero-mul (down e), mul-one (suc m * up e)) (go (suc m * 
     go zero h = absurd (lt-irrefl 0 h)
     go (suc n) h = rw eqb·suc-zero
 
--- a negative number is larger than zero in size
-larger : (b c : ℕ) → 0 < b → cond (ltb 0 b) (round binary64 true (b - 0) c) (round binary64 false (0 - b) c) ≡ round binary64 true b c
-larger zero c h = absurd (lt-irrefl 0 h)
-larger (suc b) c h = rw (leb·suc-suc, leb·zero, sub-zero)
+-- nothing and a number above it
+from-zero : (s t : Bool) (b c : ℕ) → 0 < b → sum binary64 s 0 t b c ≡ round binary64 t b c
+unfolding sum
+from-zero true true b c h = rw (zero-add b)
+from-zero false false b c h = rw (zero-add b)
+from-zero true false b c h = rw (lt-ltb 0 b h, sub-zero b)
+from-zero false true b c h = rw (lt-ltb 0 b h, sub-zero b)
+
+-- a zero of either sign and a value that is not zero: that value
+pub zero-plus : (s t : Bool) (m : ℕ) (e : ℤ) → T (fits binary64 (fin t (suc m) e)) → fin s 0 (pos 0) ⊕ fin t (suc m) e ≡ fin t (suc m) e
+unfolding add
+zero-plus s t m e f = simp (zero-mul, mul-one, one-mul) (from-zero s t (suc m * up e) (down e) (above-zero m e) ∙ round-held t (suc m) e f)
 
 of-other : (s : Bool) (m : ℕ) (e : ℤ) → T (fits binary64 (fin s (suc m) e)) → literal.zero ⊕ fin s (suc m) e ≡ fin s (suc m) e
-unfolding add ofBits
-of-other false m e f = simp (zero-mul, zero-add, mul-one, one-mul) (round-held false (suc m) e f)
-of-other true m e f = rw (zero-mul (down e), mul-one (suc m * up e), one-mul (down e)) (larger (suc m * up e) (down e) (above-zero m e) ∙ round-held true (suc m) e f)
+unfolding ofBits
+of-other s m e f = zero-plus false s m e f
 
 pub plus-zero : (x : Float) → T (fits binary64 x) → literal.zero ⊕ x ≡ cond (isMinusZero x) literal.zero x
 unfolding add eq ofBits

@@ -165,7 +165,9 @@ met-or false t s h = h
 
 corrected-twelve : (t fi : Float) → isTwelve (corrected t fi) ≡ false
 unfolding corrected
-corrected-twelve t fi = either-way (lt (magnitude fi) interceptEpsilon) (t ⊖ fi) (t ⊖ fi)
+corrected-twelve t fi =
+    met-or (lt (magnitude fi) interceptEpsilon) (t ⊖ fi) (cond (Ieee.eq (t ⊖ fi) t) (step.Accepted (t ⊖ fi)) (step.Next (t ⊖ fi)))
+    (either-way (Ieee.eq (t ⊖ fi) t) (t ⊖ fi) (t ⊖ fi))
 
 int-spd-twelve : (k : Chase) (w1 t : Float) → isTwelve (intSpdStep k w1 t) ≡ false
 unfolding intSpdStep

@@ -6,3 +6,6 @@ pub mod Coordinates
 pub mod TourCases
 pub mod Tours
 pub mod Counts
+pub mod Still
+pub mod Far
+pub mod Thirteen

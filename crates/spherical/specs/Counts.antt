@@ -1,11 +1,16 @@
--- What the laws of proofs/Counts say of the walks: which step a count names, and what that step found. Definitions only.
+-- What the laws of proofs/Counts and proofs/Thirteen say of the walks: which step a count names, and what that step found. Definitions only.
 use mathlib.Core.Path.{_≡_}
 use mathlib.Core.Bool.{Bool, true, false}
 use Prim.Native.Nat.{ℕ, zero, suc, _+_, _-_, _≤_, _<_}
-use lib.Ieee.{Float}
+use lib.Ieee as Ieee
+use lib.Ieee.{Float, lt}
+use Rattle.float.specs.Operators.{_⊖_}
+use Rattle.float.specs.Bits.{magnitude}
+use Rattle.jord.specs.Literal as literal
 use Rattle.duration.specs.declared.Span.{Span}
 use Rattle.duration.specs.declared.Span.the-variants.{Nanoseconds}
-use Rattle.spherical.specs.Walk.{mostSteps}
+use Rattle.spherical.specs.Walk.{mostSteps, sep, interceptEpsilon, minCorrection, spdCorrection}
+use Rattle.spherical.specs.declared.walk.Chase.{Chase}
 use Rattle.spherical.specs.declared.walk.Step.{Step}
 use Rattle.spherical.specs.declared.walk.Step.the-variants as step
 use Rattle.spherical.specs.declared.walk.Walk.{Walk}
@@ -50,3 +55,19 @@ pub record FoundAt (duration : Float → Span) (f : Float → Step) (t : Float) 
   pub time : Float
   pub ends : Ends f t count (step.Accepted time)
   pub lasts : duration time ≡ Nanoseconds ns
+
+-- ---- request 2026-05: "Number 13 then means fifty steps in which no test of that walk passed"
+
+-- no test passes of the correction fi at t: it is not below 1e-11, and it moves the time
+pub record Moves (t fi : Float) : Type 0 where
+  pub not-small : lt (magnitude fi) interceptEpsilon ≡ false
+  pub moved : Ieee.eq (t ⊖ fi) t ≡ false
+
+-- of a step to an intercept at the angular speed w1
+abbrev pub SpdMoves : Chase → Float → Float → Type 0
+SpdMoves k w1 t = Moves t (spdCorrection k w1 t)
+
+-- of a step to the longest intercept: nor is the separation zero
+pub record MinMoves (k : Chase) (t : Float) : Type 0 where
+  pub apart : Ieee.eq (sep k t) literal.zero ≡ false
+  pub moves : Moves t (minCorrection k t)

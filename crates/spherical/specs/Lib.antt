@@ -9,5 +9,6 @@ pub mod Lent
 pub mod Interpolated
 pub mod Sphere
 pub mod Counts
+pub mod Before
 pub mod Table
 pub mod Together

@@ -148,9 +148,12 @@ sep k t = angleRadiansBetween (k .v10) (pos (k .v20) (k .c2) (k .s2) t (k .radiu
 abbrev pub interceptEpsilon : Float
 interceptEpsilon = ofBits binary64 0x3da5fd7fe1796495
 
--- "a correction below 1e-11 (the corrected time)", else "the next time"
+-- "a correction below 1e-11 (the corrected time)"; request 2026-05: "accept also when the corrected time equals the time before it, as
+-- floats compare (NaN equals nothing)"; else "the next time"
 unfoldable pub corrected : Float → Float → Step
-corrected t fi = cond (lt (magnitude fi) interceptEpsilon) (step.Accepted (t ⊖ fi)) (step.Next (t ⊖ fi))
+corrected t fi =
+    cond (lt (magnitude fi) interceptEpsilon) (step.Accepted (t ⊖ fi))
+    (cond (Ieee.eq (t ⊖ fi) t) (step.Accepted (t ⊖ fi)) (step.Next (t ⊖ fi)))
 
 -- ---- the longest intercept
 

@@ -234,12 +234,15 @@ fn sep(k: Chase, t: f64) -> f64
     angle_radians_between(k.v10, pos(k.v20, k.c2, k.s2, t, k.radius))
 }
 
-// What the correction fi makes of a time: the corrected time, accepted where the correction is small.
+// What the correction fi makes of a time: the corrected time, accepted where the correction is small, or too small to move the time.
 fn corrected(ti: f64, fi: f64) -> Step
     ensures { λ r. ⌜ r ≡ spec.corrected ti fi ⌝ }
 {
     let ti1 = ti - fi;
     if magnitude(fi) < INTERCEPT_NR_EPSILON {
+        return Step::Accepted(ti1);
+    }
+    if ti1 == ti {
         return Step::Accepted(ti1);
     }
     Step::Next(ti1)

@@ -3,13 +3,17 @@ use Rattle.spherical.specs.Walk.{corrected}
 use Rattle.spherical.proofs.walk.corrected.Statement.{statement}
 use Rattle.spherical.proofs.walk.corrected.Tie as tie
 
-accepted : tie.Need-returns
+small : tie.Need-returns
 unfolding corrected
-accepted c = rw (← c .before .magnitude .ensures, c .if1 .taken)
+small c = rw (← c .before .magnitude .ensures, c .if1 .taken)
 
-next : tie.Need-returns-2
+still : tie.Need-returns-2
 unfolding corrected
-next c = rw (← c .before .magnitude .ensures, c .if1 .left)
+still c = rw (← c .before .before .magnitude .ensures, c .before .if1 .left, c .if2 .taken)
+
+next : tie.Need-returns-3
+unfolding corrected
+next c = rw (← c .before .before .magnitude .ensures, c .before .if1 .left, c .if2 .left)
 
 pub corrected-spec : {M : Type 1} → statement M
-corrected-spec = tie.close (tie.spec (λ c κs. tt) accepted next)
+corrected-spec = tie.close (tie.spec (λ c κs. tt) small still next)
