@@ -3,7 +3,7 @@
 
 use super::meetings::Pursuit;
 use super::shapes::{nvector, vehicle};
-use super::walks::{self, Watched};
+use super::walks;
 use crate::answer::{FLAT, NOT_ACCEPTED, NOT_ZERO_OR_MORE, Walk};
 use crate::inputs::random::{Random, SEED};
 use crate::inputs::scenes::{self, EARTH, Layout, Scene, Ship};
@@ -16,6 +16,8 @@ use std::f64::consts::PI;
 
 /// A stream that no comparison draws from.
 const STREAM: u64 = 1 << 17;
+/// Seconds: a meeting that much past the first is a later one.
+const LATER: f64 = 1.0;
 /// Steps of a walk that are shown.
 const SHOWN: usize = 6;
 
@@ -37,57 +39,51 @@ const NAMES: [&str; 12] = [
 ];
 const NONE: usize = NAMES.len() - 1;
 
-/// How a walk ends. Number 13 has two ways.
+/// How a walk ends.
 #[derive(Clone, Copy, PartialEq)]
 enum End {
-    Found,
-    /// The time found is no meeting: of a farthest point, of a greatest needed speed, or of none.
-    FoundOther,
-    Flat,
-    /// Closed on a meeting; no time stays where it was.
-    Swinging,
-    /// Not closed on a meeting.
+    /// The first meeting.
+    First,
+    /// A later one.
+    Later,
+    /// A time that is no meeting: of a farthest point, of a greatest needed speed, or of neither.
+    Other,
+    /// Number 13, closed on a meeting.
+    Closed,
+    /// Number 13, not closed on a meeting.
     Astray,
+    Flat,
     Negative,
     Long,
 }
 
-const KINDS: usize = 7;
+const KINDS: usize = 8;
 
-const COLUMNS: [&str; 13] = [
-    "to the meeting",
-    "chases",
-    "found before",
-    "found",
-    "13 before",
-    "13",
-    "12",
-    "14",
-    "15",
-    "other before",
-    "found: other",
-    "13: swings",
-    "13: astray",
+/// The numbers, then what 0 and 13 are made of.
+const COLUMNS: [(&str, &[End]); 10] = [
+    ("found", &[End::First, End::Later, End::Other]),
+    ("12", &[End::Flat]),
+    ("13", &[End::Closed, End::Astray]),
+    ("14", &[End::Negative]),
+    ("15", &[End::Long]),
+    ("found: first", &[End::First]),
+    ("found: later", &[End::Later]),
+    ("found: other", &[End::Other]),
+    ("13: closed", &[End::Closed]),
+    ("13: astray", &[End::Astray]),
 ];
 
-/// How many chases of a row end so, and what some of them ended in before.
-#[derive(Clone, Copy, Default)]
-struct Row {
-    ends: [u64; KINDS],
-    found_before: u64,
-    other_before: u64,
-    spent_before: u64,
-}
+/// How often each end, for each row.
+type Table = [[u64; KINDS]; NAMES.len()];
 
-type Table = [Row; NAMES.len()];
+/// The rules: before request 2026-05, and now.
+const RULES: [&str; 2] = ["before 2026-05", "now"];
 
-/// How a walk ended under both rules, and the seconds to the meeting: those found, those that
-/// the walk had closed on, or those to the first one.
+/// How a walk ended under each rule, and the seconds to the first meeting.
 struct Ended {
-    before: Walk,
-    other_before: bool,
-    end: End,
-    seconds: Option<f64>,
+    before: End,
+    now: End,
+    first: Option<f64>,
 }
 
 /// A walk, what tells whether a time is its goal, and a search for its first goal.
@@ -96,8 +92,8 @@ struct Kind {
     /// `probe`'s function, and the layout of its numbers.
     number: u8,
     layout: Layout,
-    walk: fn(&Scene) -> Watched,
     before: fn(&Scene) -> Walk,
+    now: fn(&Scene) -> Walk,
     /// Seconds in the unit of its times.
     unit: f64,
     is_goal: fn(&Pursuit, f64) -> bool,
@@ -109,11 +105,8 @@ const WALKS: [Kind; 3] = [
         name: "time_to_cpa",
         number: 0x76,
         layout: scenes::approach,
-        walk: |scene| walks::watched_cpa(sphere(scene), vehicle(scene.own), target(scene)),
-        // The request leaves this walk alone.
-        before: |scene| {
-            walks::watched_cpa(sphere(scene), vehicle(scene.own), target(scene)).0
-        },
+        before: approach,
+        now: approach,
         unit: 3_600.0,
         is_goal: Pursuit::is_approach,
         first: Pursuit::first_approach,
@@ -122,11 +115,11 @@ const WALKS: [Kind; 3] = [
         name: "time_to_intercept",
         number: 0x77,
         layout: scenes::intercept,
-        walk: |scene| {
-            walks::watched_intercept(sphere(scene), from(scene), own_speed(scene), target(scene))
-        },
         before: |scene| {
             walks::before_intercept(sphere(scene), from(scene), own_speed(scene), target(scene))
+        },
+        now: |scene| {
+            walks::watched_intercept(sphere(scene), from(scene), own_speed(scene), target(scene)).0
         },
         unit: 1.0,
         is_goal: Pursuit::is_meeting,
@@ -136,13 +129,18 @@ const WALKS: [Kind; 3] = [
         name: "max_time_to_intercept",
         number: 0x78,
         layout: scenes::longest,
-        walk: |scene| walks::watched_longest(sphere(scene), from(scene), target(scene)),
         before: |scene| walks::before_longest(sphere(scene), from(scene), target(scene)),
+        now: |scene| walks::watched_longest(sphere(scene), from(scene), target(scene)).0,
         unit: 1.0,
         is_goal: Pursuit::is_least,
         first: Pursuit::first_least,
     },
 ];
+
+/// The request leaves this walk as it was.
+fn approach(scene: &Scene) -> Walk {
+    walks::watched_cpa(sphere(scene), vehicle(scene.own), target(scene)).0
+}
 
 fn from(scene: &Scene) -> NVector {
     nvector(scene.own.position)
@@ -162,70 +160,57 @@ fn sphere(scene: &Scene) -> Sphere {
 
 pub fn run(count: u64) {
     println!("seed {SEED:016x}, {count} chases");
-    let mut tables = [[Row::default(); NAMES.len()]; 3];
+    let mut tables = [[[[0; KINDS]; NAMES.len()]; RULES.len()]; WALKS.len()];
     let mut random = Random::new(STREAM);
     for _ in 0..count {
         let scene = scenes::chase(&mut random);
-        for (kind, table) in WALKS.iter().zip(&mut tables) {
+        for (kind, [before, now]) in WALKS.iter().zip(&mut tables) {
             let ended = ended(kind, &scene);
-            table[row(ended.seconds)].count(&ended);
+            let row = row(ended.first);
+            before[row][ended.before as usize] += 1;
+            now[row][ended.now as usize] += 1;
         }
     }
-    WALKS.iter().zip(&tables).for_each(|(kind, table)| print(kind.name, table));
-    let [_, intercept, longest] = &WALKS;
-    let spent_before = |ended: &Ended| ended.before.number == NOT_ACCEPTED;
-    show_smallest(intercept, "stands still", |e| spent_before(e) && e.end == End::Found);
-    show_smallest(intercept, "swings", |e| e.end == End::Swinging);
-    show_smallest(longest, "stands still", |e| spent_before(e) && e.end == End::Found);
-    show_smallest(longest, "stands still elsewhere", |e| e.end == End::FoundOther);
+    for (kind, tables) in WALKS.iter().zip(&tables) {
+        RULES.iter().zip(tables).for_each(|(rule, table)| print(kind.name, rule, table));
+    }
+    show_inputs();
 }
 
-impl Row {
-    fn count(&mut self, ended: &Ended) {
-        self.ends[ended.end as usize] += 1;
-        self.found_before += u64::from(ended.before.number == 0);
-        self.other_before += u64::from(ended.other_before);
-        self.spent_before += u64::from(ended.before.number == NOT_ACCEPTED);
-    }
-
-    fn add(&mut self, other: &Row) {
-        self.ends.iter_mut().zip(other.ends).for_each(|(sum, count)| *sum += count);
-        self.found_before += other.found_before;
-        self.other_before += other.other_before;
-        self.spent_before += other.spent_before;
-    }
-
-    fn of(&self, ends: &[End]) -> u64 {
-        ends.iter().map(|end| self.ends[*end as usize]).sum()
-    }
+fn show_inputs() {
+    let [_, intercept, longest] = &WALKS;
+    let is_new = |ended: &Ended| matches!(ended.before, End::Closed | End::Astray);
+    show_smallest(intercept, "stands still", |ended| is_new(ended) && ended.now == End::First);
+    show_smallest(intercept, "swings", |ended| ended.now == End::Closed);
+    show_smallest(longest, "stands still", |ended| is_new(ended) && ended.now == End::First);
+    show_smallest(longest, "stands still elsewhere", |ended| ended.now == End::Other);
 }
 
 fn ended(kind: &Kind, scene: &Scene) -> Ended {
     let pursuit = Pursuit::of(scene);
-    let is_goal = |seconds| (kind.is_goal)(&pursuit, seconds);
-    let before = (kind.before)(scene);
-    let (walk, _) = (kind.walk)(scene);
-    let last = watch::read(|notes| kind.unit * last_time(notes));
-    let end = match walk.number {
-        0 if is_goal(found(&walk)) => End::Found,
-        0 => End::FoundOther,
+    let first = (kind.first)(&pursuit);
+    let end = |walk: Walk| end(kind, &pursuit, first, walk);
+    Ended { before: end((kind.before)(scene)), now: end((kind.now)(scene)), first }
+}
+
+/// How the walk ended that gave this, the last one run.
+fn end(kind: &Kind, pursuit: &Pursuit, first: Option<f64>, walk: Walk) -> End {
+    let is_goal = |seconds| (kind.is_goal)(pursuit, seconds);
+    let is_later = |seconds| first.is_some_and(|first| seconds > first + LATER);
+    match walk.number {
+        0 if !is_goal(found(walk)) => End::Other,
+        0 if is_later(found(walk)) => End::Later,
+        0 => End::First,
         FLAT => End::Flat,
-        NOT_ACCEPTED if is_goal(last) => End::Swinging,
+        NOT_ACCEPTED if is_goal(kind.unit * watch::read(last_time)) => End::Closed,
         NOT_ACCEPTED => End::Astray,
         NOT_ZERO_OR_MORE => End::Negative,
         _ => End::Long,
-    };
-    let seconds = match end {
-        End::Found => Some(found(&walk)),
-        End::Swinging => Some(last),
-        _ => (kind.first)(&pursuit),
-    };
-    let other_before = before.number == 0 && !is_goal(found(&before));
-    Ended { before, other_before, end, seconds }
+    }
 }
 
 /// The seconds of a time found.
-fn found(walk: &Walk) -> f64 {
+fn found(walk: Walk) -> f64 {
     walk.nanoseconds as f64 / 1e9
 }
 
@@ -239,55 +224,43 @@ fn row(seconds: Option<f64>) -> usize {
 }
 
 /// One table in Markdown: shares of a row in percent.
-fn print(name: &str, table: &Table) {
-    println!("\n`{name}`\n");
-    println!("| {} |", COLUMNS.join(" | "));
-    println!("|---|{}", "---:|".repeat(COLUMNS.len() - 1));
-    let mut all = Row::default();
-    for (name, row) in NAMES.iter().zip(table) {
-        all.add(row);
-        print_row(name, row);
+fn print(name: &str, rule: &str, table: &Table) {
+    println!("\n`{name}`, {rule}\n");
+    println!("| to the meeting | chases | {} |", COLUMNS.map(|(name, _)| name).join(" | "));
+    println!("|---|---:|{}", "---:|".repeat(COLUMNS.len()));
+    let mut all = [0; KINDS];
+    for (name, counts) in NAMES.iter().zip(table) {
+        all.iter_mut().zip(counts).for_each(|(sum, count)| *sum += count);
+        print_row(name, counts);
     }
     print_row("all", &all);
 }
 
-fn print_row(name: &str, row: &Row) {
-    let chases: u64 = row.ends.iter().sum();
+fn print_row(name: &str, counts: &[u64; KINDS]) {
+    let chases: u64 = counts.iter().sum();
     if chases == 0 {
         return;
     }
-    let counts = [
-        row.found_before,
-        row.of(&[End::Found, End::FoundOther]),
-        row.spent_before,
-        row.of(&[End::Swinging, End::Astray]),
-        row.of(&[End::Flat]),
-        row.of(&[End::Negative]),
-        row.of(&[End::Long]),
-        row.other_before,
-        row.of(&[End::FoundOther]),
-        row.of(&[End::Swinging]),
-        row.of(&[End::Astray]),
-    ];
-    let share = |count: u64| match count {
-        0 => "0".into(),
-        _ => format!("{:.3}", 100.0 * count as f64 / chases as f64),
+    let share = |(_, ends): (_, &[End])| {
+        let count: u64 = ends.iter().map(|end| counts[*end as usize]).sum();
+        if count == 0 { "0".into() } else { format!("{:.3}", 100.0 * count as f64 / chases as f64) }
     };
-    println!("| {name} | {chases} | {} |", counts.map(share).join(" | "));
+    println!("| {name} | {chases} | {} |", COLUMNS.map(share).join(" | "));
 }
 
 /// The first of some round inputs that ends so, with the last steps of its walk.
 fn show_smallest(kind: &Kind, way: &str, ends_so: impl Fn(&Ended) -> bool) {
-    let all = round_inputs().map(|(input, scene)| (input, ended(kind, &scene), scene));
-    let Some((input, ended, scene)) = { all }.find(|(_, ended, _)| ends_so(ended)) else {
+    let Some((input, scene)) = round_inputs().find(|(_, scene)| ends_so(&ended(kind, scene)))
+    else {
         return println!("\nNo round input's `{}` {way}.", kind.name);
     };
-    let (walk, duration) = (kind.walk)(&scene);
     let words: Vec<u64> = (kind.layout)(&scene).iter().map(|x| x.to_bits()).collect();
     println!("\nSmallest input whose `{}` {way}:\n{input}", kind.name);
-    println!("Before: number {}, count {}.", ended.before.number, ended.before.count);
-    println!("Now: number {}, count {}, {duration:?}.\n", walk.number, walk.count);
-    println!("{}\n", lines::text(kind.number, &words));
+    for (rule, walk) in RULES.iter().zip([kind.before, kind.now]) {
+        let Walk { number, nanoseconds, count } = walk(&scene);
+        println!("{rule}: number {number}, {nanoseconds} ns, count {count}");
+    }
+    println!("\n{}\n", lines::text(kind.number, &words));
     watch::read(print_steps);
 }
 
