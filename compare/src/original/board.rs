@@ -28,7 +28,7 @@ const MOST: usize = 64;
 /// How far a squared norm may lie from one.
 const TOLERANCE: f64 = power(-40);
 
-/// What makes a line: the walks by both copies of the original, or by the watched one alone.
+/// What makes a line: the walks by all copies of the original, or by the watched one alone.
 pub type Solver = fn(Sphere, Vehicle, [NVector; 2], Vehicle) -> Line<Walk>;
 
 struct Target {

@@ -85,7 +85,7 @@ fn kept(before: Walk, walk: Walk) -> Walk {
 /// The watched walk, once the plain original has given the same; number 15 is outside the domain.
 fn agreed((walk, duration): Watched, plain: impl FnOnce() -> Option<Duration>) -> Walk {
     if walk.number != TOO_LONG {
-        assert_eq!(plain(), duration, "the two copies of sphere.rs differ");
+        assert_eq!(plain(), duration, "two copies of sphere.rs differ");
     }
     walk
 }
@@ -153,7 +153,7 @@ pub fn line<W>(
     }
 }
 
-/// A solve with both copies of each walk.
+/// A solve with all copies of each walk.
 pub fn solve(sphere: Sphere, own: Vehicle, track: [NVector; 2], target: Vehicle) -> Line<Walk> {
     let (from, speed) = (own.position(), own.speed());
     line(sphere, own, track, target, || {
