@@ -16,3 +16,4 @@ pub mod Closest
 pub mod Nearest
 pub mod Turns
 pub mod Tangent
+pub mod NonFinite

@@ -106,10 +106,14 @@ unfoldable pub ratio : Float → Float → Float
 unfolding lt quotient
 ratio a b = cond (lt a b) (quotient a b) (quotient b a)
 
+-- 0.4140625
+abbrev pub arcBound : Float
+arcBound = ofBits binary64 0x3fda800000000000
+
 -- "If t exceeds 0.4140625, u = (t-1)/(t+1) and base `PI`/4, else u = t and base 0. α = base + u times the Horner value"
 unfoldable pub arc : Float → Float
 unfolding lt sub add div arcSeries ofInt ofBits
-arc t = cond (lt (ofBits binary64 0x3fda800000000000) t) (pi ⊘ whole 4 ⊕ arcSeries ((t ⊖ whole 1) ⊘ (t ⊕ whole 1))) (whole 0 ⊕ arcSeries t)
+arc t = cond (lt arcBound t) (pi ⊘ whole 4 ⊕ arcSeries ((t ⊖ whole 1) ⊘ (t ⊕ whole 1))) (whole 0 ⊕ arcSeries t)
 
 -- c - x where b says so
 abbrev pub subtractedIf : Bool → Float → Float → Float

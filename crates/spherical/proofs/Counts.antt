@@ -15,7 +15,7 @@ use Rattle.jord.specs.declared.positions.NVector.{NVector}
 use Rattle.duration.specs.Duration.{fromSeconds, fromHours}
 use Rattle.duration.specs.declared.Span.{Span}
 use Rattle.duration.specs.declared.Span.the-variants as span
-use Rattle.spherical.specs.Walk.{mostSteps, settle, walk, cpaNew, cpaValue, cpaSlope, cpaStep, cpaStart, oneMilliHours, chaseNew, sep, interceptEpsilon, corrected, minCorrection, intMinStep, spdCorrection, intSpdStep, interceptStart}
+use Rattle.spherical.specs.Walk.{mostSteps, settle, walk, cpaNew, cpaValue, cpaSlope, cpaStep, cpaStart, oneMilliHours, chaseNew, corrected, intMinStep, spdCorrection, intSpdStep, interceptStart}
 use Rattle.spherical.specs.Outcome.{numberOf, countOf, ofSpan, ofWalk}
 use Rattle.spherical.specs.Sphere.{cpaSteps, cpaWalk, timeToCpa, perSecond, interceptSteps, interceptWalk, timeToIntercept, longestSteps, longestStart, longestWalk, maxTimeToIntercept}
 use Rattle.spherical.specs.Counts.{Counted, after, timeAfter, goesOn, Ends, Told, FoundAt}
@@ -155,19 +155,17 @@ isTwelve (step.Accepted t) = false
 isTwelve step.ZeroDerivative = true
 isTwelve (step.Next t) = false
 
-either-way : (b : Bool) (t u : Float) → isTwelve (cond b (step.Accepted t) (step.Next u)) ≡ false
-either-way true t u = refl
-either-way false t u = refl
+twelve-cond : (b : Bool) (x y : Step) → isTwelve (cond b x y) ≡ cond b (isTwelve x) (isTwelve y)
+twelve-cond true x y = refl
+twelve-cond false x y = refl
 
-met-or : (b : Bool) (t : Float) (s : Step) → isTwelve s ≡ false → isTwelve (cond b (step.Accepted t) s) ≡ false
-met-or true t s h = refl
-met-or false t s h = h
+both-false : (b : Bool) → cond b false false ≡ false
+both-false true = refl
+both-false false = refl
 
 corrected-twelve : (t fi : Float) → isTwelve (corrected t fi) ≡ false
 unfolding corrected
-corrected-twelve t fi =
-    met-or (lt (magnitude fi) interceptEpsilon) (t ⊖ fi) (cond (Ieee.eq (t ⊖ fi) t) (step.Accepted (t ⊖ fi)) (step.Next (t ⊖ fi)))
-    (either-way (Ieee.eq (t ⊖ fi) t) (t ⊖ fi) (t ⊖ fi))
+corrected-twelve t fi = simp (twelve-cond, both-false)
 
 int-spd-twelve : (k : Chase) (w1 t : Float) → isTwelve (intSpdStep k w1 t) ≡ false
 unfolding intSpdStep
@@ -175,7 +173,7 @@ int-spd-twelve k w1 t = corrected-twelve t (spdCorrection k w1 t)
 
 int-min-twelve : (k : Chase) (t : Float) → isTwelve (intMinStep k t) ≡ false
 unfolding intMinStep
-int-min-twelve k t = met-or (Ieee.eq (sep k t) literal.zero) t (corrected t (minCorrection k t)) (corrected-twelve t (minCorrection k t))
+int-min-twelve k t = simp (twelve-cond, corrected-twelve, both-false)
 
 no-twelve-of : (duration : Float → Span) (f : Float → Step) (t : Float) (w : Walk) → ((u : Float) → isTwelve (f u) ≡ false) → Told f t w
     → numberOf (ofWalk duration w) ≡ 12 → ⊥

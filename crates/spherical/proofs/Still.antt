@@ -57,14 +57,18 @@ zero-less s u n d f = zero-plus s (not u) n d (neg-fits binary64 (fin u (suc n) 
 level-zero : (s t : Bool) (a b : ℕ) → 0 < a → b ≡ 0 → level s a t b ≡ true → ⊥
 level-zero s t a b h z e = omega (arith, eqb-true a b (both-hold (eqb a b) _ e .0))
 
+-- only the two zeros equal a zero
+pub not-zero : (s t : Bool) (m : ℕ) (e : ℤ) → eq (fin s (suc m) e) (fin t 0 (pos 0)) ≡ true → ⊥
+unfolding eq
+not-zero s t m e h = level-zero s t (suc m * up e * 1) (0 * down e) (mul-pos (above-zero m e) (zero-lt-suc 0)) (zero-mul (down e)) h
+
 -- a zero that a correction leaves a zero: the correction is a zero
 zero-still : (s : Bool) (fi : Float) → T (fits binary64 fi) → eq (fin s 0 (pos 0) ⊖ fi) (fin s 0 (pos 0)) ≡ true → lt (magnitude fi) interceptEpsilon ≡ true
 unfolding eq sub add neg lt ofBits
 zero-still s nan f h = absurd (false≢true h)
 zero-still s (inf u) f h = absurd (false≢true h)
 zero-still s (fin u zero d) f h = rw (zero-exponent u d f)
-zero-still s (fin u (suc n) d) f h =
-    absurd (level-zero (not u) s (suc n * up d * 1) (0 * down d) (mul-pos (above-zero n d) (zero-lt-suc 0)) (zero-mul (down d)) (rw (zero-less s u n d f) at h))
+zero-still s (fin u (suc n) d) f h = absurd (not-zero (not u) s n d (rw (zero-less s u n d f) at h))
 
 -- ---- a time that a correction leaves where it was
 

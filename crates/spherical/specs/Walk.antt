@@ -166,11 +166,11 @@ abbrev secondDerivative : Chase → Float → Float → Float
 secondDerivative k cosw2t sinw2t = (neg (k .w2) ⊗ k .w2) ⊗ (k .v10v20 ⊗ cosw2t ⊕ k .v10c2 ⊗ sinw2t)
 
 -- f / df, with f = ti_secs * a * v10dv2dt - si and df = ti_secs * (a * (b * v10dv2dt * v10dv2dt + v10d2v2dt2))
-abbrev minQuotient : Float → Float → Float → Float → Float → Float → Float
+abbrev pub minQuotient : Float → Float → Float → Float → Float → Float → Float
 minQuotient t si a b v v2 = (t ⊗ a ⊗ v ⊖ si) ⊘ (t ⊗ (a ⊗ (b ⊗ v ⊗ v ⊕ v2)))
 
 -- with a = -1.0 / sin_si and b = si.cos() / (sin_si * sin_si)
-abbrev minCorrectionAt : Float → Float → Float → Float → Float
+abbrev pub minCorrectionAt : Float → Float → Float → Float → Float
 minCorrectionAt t si v v2 = minQuotient t si (neg literal.one ⊘ sin si) (cos si ⊘ (sin si ⊗ sin si)) v v2
 
 -- fi of `int_min_nr_rec`
