@@ -108,8 +108,8 @@ unfolding intMinStep walks.intMinStep
 min-alike k =
     record {
       same = λ t h.
-        unless-met (Ieee.eq (sep k t) literal.zero) t (corrected t (minCorrection k t)) (walks.corrected t (minCorrection k t))
-        (corrected-same t (minCorrection k t) h (div-fits binary64 _ _));
+          unless-met (Ieee.eq (sep k t) literal.zero) t (corrected t (minCorrection k t)) (walks.corrected t (minCorrection k t))
+          (corrected-same t (minCorrection k t) h (div-fits binary64 _ _));
       held = λ t u e. corrected-held t (minCorrection k t) u (next-is (Ieee.eq (sep k t) literal.zero) t u (corrected t (minCorrection k t)) e);
     }
 

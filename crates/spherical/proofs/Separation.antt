@@ -74,7 +74,7 @@ cond-same false s = refl
 
 ordered : (t fi si : Float) (b c : Bool) → eq si literal.zero ≡ b → eq (t ⊖ fi) t ≡ c → (eq si literal.zero ≡ true → fi ≡ nan)
     → cond (eq si literal.zero) (step.Accepted t) (corrected t fi)
-      ≡ cond (eq (t ⊖ fi) t) (step.Accepted (t ⊖ fi)) (cond (eq si literal.zero) (step.Accepted t) (corrected t fi))
+    ≡ cond (eq (t ⊖ fi) t) (step.Accepted (t ⊖ fi)) (cond (eq si literal.zero) (step.Accepted t) (corrected t fi))
 unfolding corrected
 ordered t fi si b false p q h = rw q
 ordered t fi si true true p q h = absurd (false≢true (sym (nan-moves t) ∙ (rw (h p) at q)))
@@ -83,7 +83,7 @@ ordered t fi si false true p q h = rw (p, q) (cond-same (lt (magnitude fi) inter
 -- the test whether the time moves, put before that of a zero separation, makes the same step
 pub order-free : (k : Chase) (t : Float)
     → intMinStep k t
-      ≡ cond (eq (t ⊖ minCorrection k t) t) (step.Accepted (t ⊖ minCorrection k t))
-        (cond (eq (sep k t) literal.zero) (step.Accepted t) (corrected t (minCorrection k t)))
+    ≡ cond (eq (t ⊖ minCorrection k t) t) (step.Accepted (t ⊖ minCorrection k t))
+    (cond (eq (sep k t) literal.zero) (step.Accepted t) (corrected t (minCorrection k t)))
 unfolding intMinStep
 order-free k t = ordered t (minCorrection k t) (sep k t) _ _ refl refl (correction-nan k t)

@@ -5,19 +5,20 @@ use Prim.Native.Nat.{ℕ, _<_}
 use native.Mathlib.Omega.{arith}
 use lib.Ieee as Ieee
 use lib.Ieee.{Float, lt}
-use Rattle.float.specs.Operators.{_⊖_}
+use Rattle.float.specs.Operators.{_⊖_, _⊘_}
 use Rattle.float.specs.Bits.{magnitude}
-use Rattle.duration.specs.Duration.{fromSeconds}
+use Rattle.duration.specs.Duration.{fromSeconds, fromHours}
 use Rattle.duration.specs.declared.Span.{Span}
 use Rattle.duration.specs.declared.Span.the-variants as span
 use Rattle.jord.specs.Literal as literal
 use Rattle.jord.specs.declared.speed.Speed.{Speed}
 use Rattle.jord.specs.declared.vehicle.Vehicle.{Vehicle}
 use Rattle.jord.specs.declared.positions.NVector.{NVector}
-use Rattle.spherical.specs.Walk.{mostSteps, chaseNew, sep, interceptEpsilon, corrected, minCorrection, intMinStep, spdCorrection, intSpdStep, interceptStart}
+use Rattle.spherical.specs.Walk.{mostSteps, cpaNew, cpaValue, cpaSlope, cpaStep, cpaStart, oneMilliHours, chaseNew, sep, interceptEpsilon, corrected, minCorrection, intMinStep, spdCorrection, intSpdStep, interceptStart}
 use Rattle.spherical.specs.Outcome.{numberOf, ofSpan, ofWalk}
-use Rattle.spherical.specs.Sphere.{perSecond, interceptSteps, interceptWalk, timeToIntercept, longestSteps, longestStart, longestWalk, maxTimeToIntercept}
-use Rattle.spherical.specs.Counts.{timeAfter, goesOn, Told, Moves, SpdMoves, MinMoves}
+use Rattle.spherical.specs.Sphere.{cpaSteps, cpaWalk, timeToCpa, perSecond, interceptSteps, interceptWalk, timeToIntercept, longestSteps, longestStart, longestWalk, maxTimeToIntercept}
+use Rattle.spherical.specs.Counts.{timeAfter, goesOn, Told, CpaMoves, Moves, SpdMoves, MinMoves}
+use Rattle.spherical.specs.declared.walk.Cpa.{Cpa}
 use Rattle.spherical.specs.declared.walk.Chase.{Chase}
 use Rattle.spherical.specs.declared.walk.Step.{Step}
 use Rattle.spherical.specs.declared.walk.Step.the-variants as step
@@ -31,6 +32,18 @@ use Rattle.spherical.proofs.Counts.{told}
 not-accepted : (b : Bool) (t : Float) (s : Step) → goesOn (cond b (step.Accepted t) s) ≡ true → (b ≡ false) × (goesOn s ≡ true)
 not-accepted true t s e = absurd (false≢true e)
 not-accepted false t s e = (refl, e)
+
+not-flat : (b : Bool) (s : Step) → goesOn (cond b step.ZeroDerivative s) ≡ true → (b ≡ false) × (goesOn s ≡ true)
+not-flat true s e = absurd (false≢true e)
+not-flat false s e = (refl, e)
+
+cpa-moves : (k : Cpa) (x : Float) → goesOn (cpaStep k x) ≡ true → CpaMoves k x
+unfolding cpaStep
+cpa-moves k x e =
+    let m = cpaValue k x ⊘ cpaSlope k x in
+    let small = lt (magnitude m) oneMilliHours in
+    let a = not-flat (Ieee.eq (cpaSlope k x) literal.zero) (cond small (step.Accepted x) (step.Next (x ⊖ m))) e in
+    record { steep = a .0; not-small = not-accepted small x (step.Next (x ⊖ m)) (a .1) .0 }
 
 moves : (t fi : Float) → goesOn (corrected t fi) ≡ true → Moves t fi
 unfolding corrected
@@ -63,6 +76,13 @@ went-on duration f t (walked.ZeroDerivative count) r e i l = absurd (twelve e)
     twelve : _≡_ {A = ℕ} 12 13 → ⊥
     twelve e = omega arith
 went-on duration f t walked.NotConverged r e i l = r i l
+
+pub thirteen-cpa : (s : Sphere) (own int : Vehicle) → numberOf (timeToCpa s own int) ≡ 13
+    → (i : ℕ) → i < mostSteps → CpaMoves (cpaNew (s .radius) own int) (timeAfter (cpaSteps s own int) cpaStart i)
+unfolding timeToCpa
+thirteen-cpa s own int e i l =
+    let f = cpaSteps s own int in
+    cpa-moves (cpaNew (s .radius) own int) (timeAfter f cpaStart i) (went-on fromHours f cpaStart (cpaWalk s own int) (told f cpaStart) e i l)
 
 pub thirteen-intercept : (s : Sphere) (p : NVector) (v : Speed) (int : Vehicle) → numberOf (timeToIntercept s p v int) ≡ 13
     → (i : ℕ) → i < mostSteps → SpdMoves (chaseNew (s .radius) p int) (perSecond s v) (timeAfter (interceptSteps s p v int) interceptStart i)

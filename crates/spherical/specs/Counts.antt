@@ -4,12 +4,13 @@ use mathlib.Core.Bool.{Bool, true, false}
 use Prim.Native.Nat.{ℕ, zero, suc, _+_, _-_, _≤_, _<_}
 use lib.Ieee as Ieee
 use lib.Ieee.{Float, lt}
-use Rattle.float.specs.Operators.{_⊖_}
+use Rattle.float.specs.Operators.{_⊖_, _⊘_}
 use Rattle.float.specs.Bits.{magnitude}
 use Rattle.jord.specs.Literal as literal
 use Rattle.duration.specs.declared.Span.{Span}
 use Rattle.duration.specs.declared.Span.the-variants.{Nanoseconds}
-use Rattle.spherical.specs.Walk.{mostSteps, sep, interceptEpsilon, minCorrection, spdCorrection}
+use Rattle.spherical.specs.Walk.{mostSteps, oneMilliHours, cpaValue, cpaSlope, sep, interceptEpsilon, minCorrection, spdCorrection}
+use Rattle.spherical.specs.declared.walk.Cpa.{Cpa}
 use Rattle.spherical.specs.declared.walk.Chase.{Chase}
 use Rattle.spherical.specs.declared.walk.Step.{Step}
 use Rattle.spherical.specs.declared.walk.Step.the-variants as step
@@ -57,6 +58,11 @@ pub record FoundAt (duration : Float → Span) (f : Float → Step) (t : Float) 
   pub lasts : duration time ≡ Nanoseconds ns
 
 -- ---- request 2026-05: "Number 13 then means fifty steps in which no test of that walk passed"
+
+-- of a step to the closest approach: the derivative is not zero, the correction not below `ONE_MILLI_HOURS`
+pub record CpaMoves (k : Cpa) (x : Float) : Type 0 where
+  pub steep : Ieee.eq (cpaSlope k x) literal.zero ≡ false
+  pub not-small : lt (magnitude (cpaValue k x ⊘ cpaSlope k x)) oneMilliHours ≡ false
 
 -- no test passes of the correction fi at t: it is not below 1e-11, and it moves the time
 pub record Moves (t fi : Float) : Type 0 where
