@@ -60,7 +60,7 @@ const WATCHES: [Change; 7] = [
     ("-1.0 // no convergence", "watch::spent(-1.0) // no convergence", 2),
     ("Some(Duration::from_secs_f64(t_intercept_secs))", "watch::duration(t_intercept_secs)", 2),
 ];
-/// On its first line.
+/// On their first line.
 const WATCH_IN_SCOPE: &str = "use crate::jord::watch; ";
 
 /// No function that the standard library leaves to the platform may be called.

@@ -45,7 +45,7 @@ fn answered(function: &Function, words: &[u64]) -> Option<Answer> {
     fits.then(|| walked(function.number, words).unwrap_or_else(|| (function.reference)(words)))
 }
 
-/// A walk or a solve without the plain original's opinion, which would take twice the time.
+/// A walk or a solve without the other copies' opinion, which would take its time.
 fn walked(number: u8, mut words: &[u64]) -> Option<Answer> {
     let left = &mut words;
     let (walk, _) = match number {

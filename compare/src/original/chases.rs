@@ -1,7 +1,7 @@
 //! Realistic chases: how each walk ends, and ended before request 2026-05, by the hours to the
 //! meeting; and the smallest inputs of a few ways to end.
 
-use super::meetings::Pursuit;
+use super::meetings::{CLOSED, Pursuit};
 use super::shapes::{nvector, vehicle};
 use super::walks;
 use crate::answer::{FLAT, NOT_ACCEPTED, NOT_ZERO_OR_MORE, Walk};
@@ -46,30 +46,36 @@ enum End {
     First,
     /// A later one.
     Later,
-    /// A time that is no meeting: of a farthest point, of a greatest needed speed, or of neither.
+    /// The time of a farthest point, or of a greatest needed speed.
+    Opposite,
+    /// A time of neither.
     Other,
-    /// Number 13, closed on a meeting.
+    /// Number 13, closed on a meeting: the last times are about it, and so about each other.
     Closed,
-    /// Number 13, not closed on a meeting.
+    /// Number 13, about to close on a meeting.
+    Closing,
+    /// Number 13, and the last time is no meeting.
     Astray,
     Flat,
     Negative,
     Long,
 }
 
-const KINDS: usize = 8;
+const KINDS: usize = 10;
 
 /// The numbers, then what 0 and 13 are made of.
-const COLUMNS: [(&str, &[End]); 10] = [
-    ("found", &[End::First, End::Later, End::Other]),
+const COLUMNS: [(&str, &[End]); 12] = [
+    ("found", &[End::First, End::Later, End::Opposite, End::Other]),
     ("12", &[End::Flat]),
-    ("13", &[End::Closed, End::Astray]),
+    ("13", &[End::Closed, End::Closing, End::Astray]),
     ("14", &[End::Negative]),
     ("15", &[End::Long]),
     ("found: first", &[End::First]),
     ("found: later", &[End::Later]),
+    ("found: opposite", &[End::Opposite]),
     ("found: other", &[End::Other]),
     ("13: closed", &[End::Closed]),
+    ("13: closing", &[End::Closing]),
     ("13: astray", &[End::Astray]),
 ];
 
@@ -97,6 +103,7 @@ struct Kind {
     /// Seconds in the unit of its times.
     unit: f64,
     is_goal: fn(&Pursuit, f64) -> bool,
+    is_opposite: fn(&Pursuit, f64) -> bool,
     first: fn(&Pursuit) -> Option<f64>,
 }
 
@@ -105,10 +112,11 @@ const WALKS: [Kind; 3] = [
         name: "time_to_cpa",
         number: 0x76,
         layout: scenes::approach,
-        before: approach,
-        now: approach,
+        before: |scene| walks::before_cpa(sphere(scene), vehicle(scene.own), target(scene)),
+        now: |scene| walks::watched_cpa(sphere(scene), vehicle(scene.own), target(scene)).0,
         unit: 3_600.0,
         is_goal: Pursuit::is_approach,
+        is_opposite: Pursuit::is_farthest,
         first: Pursuit::first_approach,
     },
     Kind {
@@ -123,6 +131,7 @@ const WALKS: [Kind; 3] = [
         },
         unit: 1.0,
         is_goal: Pursuit::is_meeting,
+        is_opposite: |_, _| false,
         first: Pursuit::first_meeting,
     },
     Kind {
@@ -133,14 +142,10 @@ const WALKS: [Kind; 3] = [
         now: |scene| walks::watched_longest(sphere(scene), from(scene), target(scene)).0,
         unit: 1.0,
         is_goal: Pursuit::is_least,
+        is_opposite: Pursuit::is_greatest,
         first: Pursuit::first_least,
     },
 ];
-
-/// The request leaves this walk as it was.
-fn approach(scene: &Scene) -> Walk {
-    walks::watched_cpa(sphere(scene), vehicle(scene.own), target(scene)).0
-}
 
 fn from(scene: &Scene) -> NVector {
     nvector(scene.own.position)
@@ -179,11 +184,16 @@ pub fn run(count: u64) {
 
 fn show_inputs() {
     let [_, intercept, longest] = &WALKS;
-    let is_new = |ended: &Ended| matches!(ended.before, End::Closed | End::Astray);
-    show_smallest(intercept, "stands still", |ended| is_new(ended) && ended.now == End::First);
-    show_smallest(intercept, "swings", |ended| ended.now == End::Closed);
-    show_smallest(longest, "stands still", |ended| is_new(ended) && ended.now == End::First);
-    show_smallest(longest, "stands still elsewhere", |ended| ended.now == End::Other);
+    let is_new = |ended: &Ended| matches!(ended.before, End::Closed | End::Closing | End::Astray);
+    let is = |end: End| move |ended: &Ended| is_new(ended) && ended.now == end;
+    show_smallest(intercept, "stands still", is(End::First));
+    show_smallest(intercept, "swings", is(End::Closed));
+    show_smallest(intercept, "stands still later", is(End::Later));
+    show_smallest(intercept, "was found later before", |ended| ended.before == End::Later);
+    show_smallest(longest, "stands still", is(End::First));
+    show_smallest(longest, "swings", is(End::Closed));
+    show_smallest(longest, "stands still at a greatest speed", is(End::Opposite));
+    show_smallest(longest, "stands still behind us", is(End::Negative));
 }
 
 fn ended(kind: &Kind, scene: &Scene) -> Ended {
@@ -198,12 +208,14 @@ fn end(kind: &Kind, pursuit: &Pursuit, first: Option<f64>, walk: Walk) -> End {
     let is_goal = |seconds| (kind.is_goal)(pursuit, seconds);
     let is_later = |seconds| first.is_some_and(|first| seconds > first + LATER);
     match walk.number {
-        0 if !is_goal(found(walk)) => End::Other,
-        0 if is_later(found(walk)) => End::Later,
-        0 => End::First,
+        0 if is_goal(found(walk)) && is_later(found(walk)) => End::Later,
+        0 if is_goal(found(walk)) => End::First,
+        0 if (kind.is_opposite)(pursuit, found(walk)) => End::Opposite,
+        0 => End::Other,
         FLAT => End::Flat,
-        NOT_ACCEPTED if is_goal(kind.unit * watch::read(last_time)) => End::Closed,
-        NOT_ACCEPTED => End::Astray,
+        NOT_ACCEPTED if !is_goal(kind.unit * watch::read(last_time)) => End::Astray,
+        NOT_ACCEPTED if kind.unit * watch::read(spread) < CLOSED => End::Closed,
+        NOT_ACCEPTED => End::Closing,
         NOT_ZERO_OR_MORE => End::Negative,
         _ => End::Long,
     }
@@ -216,6 +228,12 @@ fn found(walk: Walk) -> f64 {
 
 fn last_time(notes: &Notes) -> f64 {
     notes.time(notes.calls())
+}
+
+/// How far the last times lie from the very last.
+fn spread(notes: &Notes) -> f64 {
+    let last = last_time(notes);
+    (0..watch::KEPT).map(|call| (notes.time(call) - last).abs()).fold(0.0, f64::max)
 }
 
 fn row(seconds: Option<f64>) -> usize {
@@ -250,12 +268,13 @@ fn print_row(name: &str, counts: &[u64; KINDS]) {
 
 /// The first of some round inputs that ends so, with the last steps of its walk.
 fn show_smallest(kind: &Kind, way: &str, ends_so: impl Fn(&Ended) -> bool) {
-    let Some((input, scene)) = round_inputs().find(|(_, scene)| ends_so(&ended(kind, scene)))
-    else {
+    let mut all = round_inputs().map(|(input, scene)| (input, ended(kind, &scene), scene));
+    let Some((input, ended, scene)) = all.find(|(_, ended, _)| ends_so(ended)) else {
         return println!("\nNo round input's `{}` {way}.", kind.name);
     };
     let words: Vec<u64> = (kind.layout)(&scene).iter().map(|x| x.to_bits()).collect();
     println!("\nSmallest input whose `{}` {way}:\n{input}", kind.name);
+    println!("first: {:?} s", ended.first);
     for (rule, walk) in RULES.iter().zip([kind.before, kind.now]) {
         let Walk { number, nanoseconds, count } = walk(&scene);
         println!("{rule}: number {number}, {nanoseconds} ns, count {count}");
@@ -264,32 +283,41 @@ fn show_smallest(kind: &Kind, way: &str, ends_so: impl Fn(&Ended) -> bool) {
     watch::read(print_steps);
 }
 
-/// An own ship at the origin and a target that drifts at one metre a second, nearest first.
+/// An own ship at the origin and a target, nearest first: the target at one metre a second and the
+/// own ship faster, then the other way round.
 fn round_inputs() -> impl Iterator<Item = (String, Scene)> {
-    let places = (1..=20).flat_map(|sum| (0..=sum).map(move |north| (north, sum - north)));
-    let bearings = [90, 270, 0, 180];
-    let courses = places.flat_map(move |place| bearings.map(|bearing| (place, bearing)));
-    courses.flat_map(|(place, bearing)| (2..=10).map(move |own| round_input(place, bearing, own)))
+    let speeds: [fn(u32) -> [u32; 2]; 2] = [|more| [more, 1], |more| [1, more]];
+    let places = || (1..=20).flat_map(|sum| (0..=sum).map(move |north| (north, sum - north)));
+    let courses = move || places().flat_map(|place| [90, 270, 0, 180].map(|way| (place, way)));
+    speeds.into_iter().flat_map(move |speeds| {
+        courses().flat_map(move |(place, bearing)| {
+            (2..=10).map(move |more| round_input(place, bearing, speeds(more)))
+        })
+    })
 }
 
 /// The words of an input and its scene; whole degrees and metres a second.
-fn round_input((north, east): (u32, u32), bearing: u32, own: u32) -> (String, Scene) {
+fn round_input(
+    (north, east): (u32, u32),
+    bearing: u32,
+    [own, target]: [u32; 2],
+) -> (String, Scene) {
     let radians = |degrees: u32| degrees as f64 * (PI / 180.0);
     let ship = |(north, east), speed| {
         let position = at(radians(north), radians(east));
         Ship { position, bearing: radians(bearing), speed }
     };
     let text = format!(
-        "own ship at 0°N 0°E, {own} m/s; target at {north}°N {east}°E, bearing {bearing}°, 1 m/s; \
+        "own ship at 0°N 0°E, {own} m/s; target at {north}°N {east}°E, bearing {bearing}°, {target} m/s; \
          radius {EARTH} m."
     );
-    let (own, target) = (ship((0, 0), own as f64), ship((north, east), 1.0));
+    let (own, target) = (ship((0, 0), own as f64), ship((north, east), target as f64));
     (text, Scene { radius: EARTH, own, track: [own.position, target.position], target })
 }
 
 fn print_steps(notes: &Notes) {
     println!("| step | time, s | correction, s |\n|---|---|---|");
-    for step in notes.calls() + 1 - SHOWN..=notes.calls() {
+    for step in notes.calls().saturating_sub(SHOWN) + 1..=notes.calls() {
         println!("| {step} | {:?} | {:e} |", notes.time(step), notes.correction(step));
     }
     let last = last_time(notes);

@@ -6,7 +6,7 @@ use crate::inputs::vectors::Vector;
 use std::f64::consts::PI;
 
 /// Seconds: a walk within this of a meeting has closed on it.
-const CLOSED: f64 = 1e-3;
+pub const CLOSED: f64 = 1e-3;
 /// Seconds: the search stops this near.
 const NEAR: f64 = 1e-4;
 const MOST_STEPS: u32 = 1_000_000;
@@ -74,14 +74,22 @@ impl Pursuit {
 
     /// Whether the needed speed is least within a millisecond.
     pub fn is_least(&self, seconds: f64) -> bool {
-        let about = [seconds - CLOSED, seconds + CLOSED].map(|t| self.excess(t));
-        seconds >= 0.0 && about[0] <= 0.0 && about[1] >= 0.0
+        turns(seconds, CLOSED, |t| self.excess(t))
+    }
+
+    /// Whether it is greatest.
+    pub fn is_greatest(&self, seconds: f64) -> bool {
+        turns(seconds, CLOSED, |t| -self.excess(t))
     }
 
     /// Whether the two are nearest within two milliseconds: the walk's tolerance and its rounding.
     pub fn is_approach(&self, seconds: f64) -> bool {
-        let about = [seconds - 2.0 * CLOSED, seconds + 2.0 * CLOSED].map(|t| self.closing(t));
-        seconds >= 0.0 && about[0] >= 0.0 && about[1] <= 0.0
+        turns(seconds, 2.0 * CLOSED, |t| -self.closing(t))
+    }
+
+    /// Whether they are farthest.
+    pub fn is_farthest(&self, seconds: f64) -> bool {
+        turns(seconds, 2.0 * CLOSED, |t| self.closing(t))
     }
 
     /// What the own ship lacks, in radians.
@@ -117,6 +125,11 @@ fn moved([place, way]: [Vector; 2], angle: f64) -> (Vector, Vector) {
     let (s, c) = angle.sin_cos();
     let turned = |a: Vector, b: Vector, s: f64| [0, 1, 2].map(|i| a[i] * c + b[i] * s);
     (turned(place, way, s), turned(way, place, -s))
+}
+
+/// Whether something goes from below zero to above it within so many seconds of a time to come.
+fn turns(seconds: f64, within: f64, rate: impl Fn(f64) -> f64) -> bool {
+    seconds >= 0.0 && rate(seconds - within) <= 0.0 && rate(seconds + within) >= 0.0
 }
 
 /// Where something that holds at the first end holds no more.

@@ -91,6 +91,7 @@ fn run_all<A>(inputs: &[Vec<u64>], solve: impl Fn(&[u64]) -> A) -> f64 {
     milliseconds(start)
 }
 
+/// No chase of this seed has a time of 2^64 seconds or more, at which the original would trap.
 fn plain(words: &[u64]) -> walks::Line<Option<Duration>> {
     let (sphere, own, track, target) = answering::arguments(words);
     walks::line(sphere, own, track, target, || {

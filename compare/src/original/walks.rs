@@ -1,6 +1,6 @@
 //! The walks: answers of the plain original, with the count and the kind of refusal that the
 //! watched copy notes. The two must agree wherever document 01's domain reaches. What the rule
-//! before request 2026-05 answered, but for 13, must be answered again.
+//! before request 2026-05 answered, but for 13 of an intercept, must be answered again.
 
 use super::shapes::number;
 use crate::answer::{Answer, FLAT, NOT_ACCEPTED, NOT_ZERO_OR_MORE, TOO_LONG, Walk};
@@ -14,7 +14,10 @@ use std::time::Duration;
 pub type Watched = (Walk, Option<Duration>);
 
 pub fn time_to_cpa(sphere: Sphere, own: Vehicle, intruder: Vehicle) -> Walk {
-    agreed(watched_cpa(sphere, own, intruder), || sphere.time_to_cpa(own, intruder))
+    let watched = watched_cpa(sphere, own, intruder);
+    let walk = agreed(watched, || sphere.time_to_cpa(own, intruder));
+    assert_eq!(walk, before_cpa(sphere, own, intruder), "closest approach has moved");
+    walk
 }
 
 pub fn time_to_intercept(sphere: Sphere, from: NVector, speed: Speed, intruder: Vehicle) -> Walk {
@@ -56,14 +59,21 @@ fn copy(sphere: Sphere) -> watched::Sphere {
     watched::Sphere::new(sphere.radius())
 }
 
-/// A walk to an intercept under the rule before request 2026-05.
+/// The walk to the closest approach under the rule before request 2026-05.
+pub fn before_cpa(sphere: Sphere, own: Vehicle, intruder: Vehicle) -> Walk {
+    watch::begin();
+    let duration = copy_before(sphere).time_to_cpa(own, intruder);
+    watch::read(|notes| approach(notes, duration))
+}
+
+/// The same of the walk to an intercept.
 pub fn before_intercept(sphere: Sphere, from: NVector, speed: Speed, intruder: Vehicle) -> Walk {
     watch::begin();
     let duration = copy_before(sphere).time_to_intercept(from, speed, intruder);
     watch::read(|notes| intercept(notes, duration))
 }
 
-/// The same of the walk to the longest.
+/// And of the walk to the longest.
 pub fn before_longest(sphere: Sphere, from: NVector, intruder: Vehicle) -> Walk {
     watch::begin();
     let duration = copy_before(sphere).max_time_to_intercept(from, intruder);
@@ -165,7 +175,7 @@ pub fn solve(sphere: Sphere, own: Vehicle, track: [NVector; 2], target: Vehicle)
     })
 }
 
-/// A solve by the watched copy alone, which takes half the time.
+/// A solve by the watched copy alone, which spares the time of the others.
 pub fn watched_solve(
     sphere: Sphere,
     own: Vehicle,

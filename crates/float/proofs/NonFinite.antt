@@ -1,4 +1,4 @@
--- Infinite or NaN: so are products, sums and differences with such a value, and the quotient of two is a NaN. Assumes nothing.
+-- Infinite or NaN: so are a product with such a value, a sum or difference that it begins, and the quotient of two is a NaN. Assumes nothing.
 use mathlib.Core.Path.{_≡_, refl}
 use mathlib.Core.Bool.{Bool, true, false, cond, false≢true}
 use lib.Dec.{eqb}

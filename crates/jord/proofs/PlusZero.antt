@@ -1,4 +1,4 @@
--- 0.0 + x is x, but for -0, of which it makes +0. Assumes nothing.
+-- 0.0 + x is x, but for -0, of which it makes +0; a zero of either sign and an x that is not zero are x. Assumes nothing.
 use mathlib.Core.Path.{_≡_, refl, sym, ap, _∙_}
 use Prim.Native.Nat.{ℕ, zero, suc, _*_, _^_, _<_}
 use native.Mathlib.Nat.{zero-mul, zero-add, mul-one, one-mul, sub-zero, mul-pos, zero-lt-suc, lt-irrefl}

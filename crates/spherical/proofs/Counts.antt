@@ -29,8 +29,12 @@ use Rattle.spherical.specs.declared.outcome.Outcome.{Outcome}
 use Rattle.spherical.specs.declared.outcome.Outcome.the-variants.{Found, ZeroDerivative, NotConverged, Negative, TooLong}
 use Rattle.spherical.specs.declared.sphere.Sphere.{Sphere}
 
-zero-one : _≡_ {A = ℕ} 0 1 → ⊥
+pub zero-one : _≡_ {A = ℕ} 0 1 → ⊥
 zero-one e = omega arith
+
+pub cond-same : {A : Type 0} (b : Bool) (x : A) → cond b x x ≡ x
+cond-same true x = refl
+cond-same false x = refl
 
 -- ---- a walk is told by its steps
 
@@ -159,13 +163,9 @@ twelve-cond : (b : Bool) (x y : Step) → isTwelve (cond b x y) ≡ cond b (isTw
 twelve-cond true x y = refl
 twelve-cond false x y = refl
 
-both-false : (b : Bool) → cond b false false ≡ false
-both-false true = refl
-both-false false = refl
-
 corrected-twelve : (t fi : Float) → isTwelve (corrected t fi) ≡ false
 unfolding corrected
-corrected-twelve t fi = simp (twelve-cond, both-false)
+corrected-twelve t fi = simp (twelve-cond, cond-same)
 
 int-spd-twelve : (k : Chase) (w1 t : Float) → isTwelve (intSpdStep k w1 t) ≡ false
 unfolding intSpdStep
@@ -173,7 +173,7 @@ int-spd-twelve k w1 t = corrected-twelve t (spdCorrection k w1 t)
 
 int-min-twelve : (k : Chase) (t : Float) → isTwelve (intMinStep k t) ≡ false
 unfolding intMinStep
-int-min-twelve k t = simp (twelve-cond, corrected-twelve, both-false)
+int-min-twelve k t = simp (twelve-cond, corrected-twelve, cond-same)
 
 no-twelve-of : (duration : Float → Span) (f : Float → Step) (t : Float) (w : Walk) → ((u : Float) → isTwelve (f u) ≡ false) → Told f t w
     → numberOf (ofWalk duration w) ≡ 12 → ⊥

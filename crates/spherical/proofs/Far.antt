@@ -4,7 +4,6 @@ use mathlib.Core.Path.{_≡_, refl, ap, subst}
 use mathlib.Core.Bool.{Bool, true, false, cond}
 use mathlib.Core.Logic.{_⊎_, inl, inr, ⊎-elim}
 use Prim.Native.Nat.{ℕ, zero, suc, _-_}
-use native.Mathlib.Omega.{arith}
 use lib.Dec.{T}
 use lib.Ieee as Ieee
 use lib.Ieee.{Float, binary64, fits, lt, ofBits}
@@ -27,10 +26,8 @@ use Rattle.spherical.specs.declared.walk.Step.the-variants as step
 use Rattle.spherical.specs.declared.walk.Walk.{Walk}
 use Rattle.spherical.specs.declared.walk.Walk.the-variants.{NotConverged}
 use Rattle.spherical.specs.declared.sphere.Sphere.{Sphere}
+use Rattle.spherical.proofs.Counts.{zero-one}
 use Rattle.spherical.proofs.Still.{still}
-
-zero-one : _≡_ {A = ℕ} 0 1 → ⊥
-zero-one e = omega arith
 
 -- ---- two steps that differ only where the first stands still
 

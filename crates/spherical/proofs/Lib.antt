@@ -5,8 +5,8 @@ pub mod Means
 pub mod Coordinates
 pub mod TourCases
 pub mod Tours
-pub mod Still
-pub mod Far
 pub mod Counts
 pub mod Thirteen
+pub mod Still
+pub mod Far
 pub mod Separation

@@ -6,18 +6,18 @@ use mathlib.Core.Logic.{_⊎_, inl, inr, ⊎-elim}
 use Prim.Native.Nat.{zero, suc}
 use lib.Dec.{T}
 use lib.IntN.{pos}
-use lib.Ieee.{Float, nan, inf, fin, binary64, add, sub, mul, div, neg, eq, lt, fits, ofBits}
+use lib.Ieee.{Float, nan, inf, fin, binary64, add, sub, div, neg, eq, lt, fits, ofBits}
 use Rattle.float.specs.Operators.{_⊕_, _⊖_, _⊗_, _⊘_}
 use Rattle.float.specs.Bits.{magnitude}
-use Rattle.float.specs.Trig.{sin, cos}
+use Rattle.float.specs.Trig.{sin}
 use Rattle.float.proofs.NonFinite.{nonFinite, mul-non-finite, non-finite-mul, sub-non-finite, div-non-finite}
 use Rattle.float.proofs.Tangent.{atan2-fits}
 use Rattle.jord.specs.Literal as literal
 use Rattle.jord.proofs.PlusZero.{zero-exponent}
 use Rattle.spherical.specs.Walk.{sep, interceptEpsilon, corrected, minQuotient, minCorrectionAt, minCorrection, intMinStep}
 use Rattle.spherical.specs.declared.walk.Chase.{Chase}
-use Rattle.spherical.specs.declared.walk.Step.{Step}
 use Rattle.spherical.specs.declared.walk.Step.the-variants as step
+use Rattle.spherical.proofs.Counts.{cond-same}
 use Rattle.spherical.proofs.Still.{not-zero}
 
 -- ---- a zero
@@ -31,27 +31,22 @@ zero-is (fin true zero e) f h = inl (ap (fin true 0) (zero-exponent true e f))
 zero-is (fin false zero e) f h = inr (ap (fin false 0) (zero-exponent false e f))
 zero-is (fin s (suc m) e) f h = absurd (not-zero s false m e h)
 
--- -1.0 / sin si and cos si / (sin si * sin si) there
+-- -1.0 / sin si there
 slope-non-finite : (s : Bool) → nonFinite (neg literal.one ⊘ sin (fin s 0 (pos 0))) ≡ true
-unfolding sin cos neg mul div ofBits
+unfolding sin neg div ofBits
 slope-non-finite true = refl
 slope-non-finite false = refl
 
-bend-non-finite : (s : Bool) → nonFinite (cos (fin s 0 (pos 0)) ⊘ (sin (fin s 0 (pos 0)) ⊗ sin (fin s 0 (pos 0)))) ≡ true
-unfolding sin cos neg mul div ofBits
-bend-non-finite true = refl
-bend-non-finite false = refl
-
 -- ---- where the separation is zero
 
-quotient-nan : (t si a b v v2 : Float) → nonFinite a ≡ true → nonFinite b ≡ true → minQuotient t si a b v v2 ≡ nan
-quotient-nan t si a b v v2 h k =
+quotient-nan : (t si a b v v2 : Float) → nonFinite a ≡ true → minQuotient t si a b v v2 ≡ nan
+quotient-nan t si a b v v2 h =
     div-non-finite (t ⊗ a ⊗ v ⊖ si) (t ⊗ (a ⊗ (b ⊗ v ⊗ v ⊕ v2)))
     (sub-non-finite (t ⊗ a ⊗ v) si (mul-non-finite (t ⊗ a) v (non-finite-mul t a h)))
     (non-finite-mul t _ (mul-non-finite a _ h))
 
 at-zero : (t v v2 : Float) (s : Bool) → minCorrectionAt t (fin s 0 (pos 0)) v v2 ≡ nan
-at-zero t v v2 s = quotient-nan t (fin s 0 (pos 0)) _ _ v v2 (slope-non-finite s) (bend-non-finite s)
+at-zero t v v2 s = quotient-nan t (fin s 0 (pos 0)) _ _ v v2 (slope-non-finite s)
 
 sep-fits : (k : Chase) (t : Float) → T (fits binary64 (sep k t))
 unfolding sep
@@ -67,10 +62,6 @@ unfolding eq sub add neg
 nan-moves nan = refl
 nan-moves (inf s) = refl
 nan-moves (fin s m e) = refl
-
-cond-same : (b : Bool) (s : Step) → cond b s s ≡ s
-cond-same true s = refl
-cond-same false s = refl
 
 ordered : (t fi si : Float) (b c : Bool) → eq si literal.zero ≡ b → eq (t ⊖ fi) t ≡ c → (eq si literal.zero ≡ true → fi ≡ nan)
     → cond (eq si literal.zero) (step.Accepted t) (corrected t fi)

@@ -1,7 +1,8 @@
--- Request 2026-05: "Number 13 then means fifty steps in which no test of that walk passed". Assumes nothing.
-use mathlib.Core.Path.{_≡_, refl}
+-- Request 2026-05: "Number 13 then means fifty steps in which no test of that walk passed", and neither more nor less. Assumes nothing.
+use mathlib.Core.Path.{_≡_, refl, sym, ap, _∙_}
 use mathlib.Core.Bool.{Bool, true, false, cond, false≢true}
-use Prim.Native.Nat.{ℕ, _<_}
+use mathlib.Core.Logic.{_↔_}
+use Prim.Native.Nat.{ℕ, _-_, _<_}
 use native.Mathlib.Omega.{arith}
 use lib.Ieee as Ieee
 use lib.Ieee.{Float, lt}
@@ -14,10 +15,10 @@ use Rattle.jord.specs.Literal as literal
 use Rattle.jord.specs.declared.speed.Speed.{Speed}
 use Rattle.jord.specs.declared.vehicle.Vehicle.{Vehicle}
 use Rattle.jord.specs.declared.positions.NVector.{NVector}
-use Rattle.spherical.specs.Walk.{mostSteps, cpaNew, cpaValue, cpaSlope, cpaStep, cpaStart, oneMilliHours, chaseNew, sep, interceptEpsilon, corrected, minCorrection, intMinStep, spdCorrection, intSpdStep, interceptStart}
+use Rattle.spherical.specs.Walk.{mostSteps, walk, cpaNew, cpaValue, cpaSlope, cpaStep, cpaStart, oneMilliHours, chaseNew, sep, interceptEpsilon, corrected, minCorrection, intMinStep, spdCorrection, intSpdStep, interceptStart}
 use Rattle.spherical.specs.Outcome.{numberOf, ofSpan, ofWalk}
-use Rattle.spherical.specs.Sphere.{cpaSteps, cpaWalk, timeToCpa, perSecond, interceptSteps, interceptWalk, timeToIntercept, longestSteps, longestStart, longestWalk, maxTimeToIntercept}
-use Rattle.spherical.specs.Counts.{timeAfter, goesOn, Told, CpaMoves, Moves, SpdMoves, MinMoves}
+use Rattle.spherical.specs.Sphere.{cpaSteps, timeToCpa, perSecond, interceptSteps, timeToIntercept, longestSteps, longestStart, maxTimeToIntercept}
+use Rattle.spherical.specs.Counts.{timeAfter, goesOn, Ends, Told, CpaMoves, Moves, SpdMoves, MinMoves}
 use Rattle.spherical.specs.declared.walk.Cpa.{Cpa}
 use Rattle.spherical.specs.declared.walk.Chase.{Chase}
 use Rattle.spherical.specs.declared.walk.Step.{Step}
@@ -27,7 +28,7 @@ use Rattle.spherical.specs.declared.walk.Walk.the-variants as walked
 use Rattle.spherical.specs.declared.sphere.Sphere.{Sphere}
 use Rattle.spherical.proofs.Counts.{told}
 
--- ---- a step that goes on has passed no test
+-- ---- a step goes on exactly where no test passes
 
 not-accepted : (b : Bool) (t : Float) (s : Step) → goesOn (cond b (step.Accepted t) s) ≡ true → (b ≡ false) × (goesOn s ≡ true)
 not-accepted true t s e = absurd (false≢true e)
@@ -37,31 +38,40 @@ not-flat : (b : Bool) (s : Step) → goesOn (cond b step.ZeroDerivative s) ≡ t
 not-flat true s e = absurd (false≢true e)
 not-flat false s e = (refl, e)
 
-cpa-moves : (k : Cpa) (x : Float) → goesOn (cpaStep k x) ≡ true → CpaMoves k x
+cpa-moves : (k : Cpa) (x : Float) → goesOn (cpaStep k x) ≡ true ↔ CpaMoves k x
 unfolding cpaStep
-cpa-moves k x e =
-    let m = cpaValue k x ⊘ cpaSlope k x in
-    let small = lt (magnitude m) oneMilliHours in
-    let a = not-flat (Ieee.eq (cpaSlope k x) literal.zero) (cond small (step.Accepted x) (step.Next (x ⊖ m))) e in
-    record { steep = a .0; not-small = not-accepted small x (step.Next (x ⊖ m)) (a .1) .0 }
+cpa-moves k x = (to, λ h. rw (h .steep, h .not-small))
+  where
+    to : goesOn (cpaStep k x) ≡ true → CpaMoves k x
+    to e =
+        let m = cpaValue k x ⊘ cpaSlope k x in
+        let small = lt (magnitude m) oneMilliHours in
+        let a = not-flat (Ieee.eq (cpaSlope k x) literal.zero) (cond small (step.Accepted x) (step.Next (x ⊖ m))) e in
+        record { steep = a .0; not-small = not-accepted small x (step.Next (x ⊖ m)) (a .1) .0 }
 
-moves : (t fi : Float) → goesOn (corrected t fi) ≡ true → Moves t fi
+moves : (t fi : Float) → goesOn (corrected t fi) ≡ true ↔ Moves t fi
 unfolding corrected
-moves t fi e =
-    let a = not-accepted (lt (magnitude fi) interceptEpsilon) (t ⊖ fi) (cond (Ieee.eq (t ⊖ fi) t) (step.Accepted (t ⊖ fi)) (step.Next (t ⊖ fi))) e in
-    record { not-small = a .0; moved = not-accepted (Ieee.eq (t ⊖ fi) t) (t ⊖ fi) (step.Next (t ⊖ fi)) (a .1) .0 }
+moves t fi = (to, λ h. rw (h .not-small, h .moved))
+  where
+    to : goesOn (corrected t fi) ≡ true → Moves t fi
+    to e =
+        let a = not-accepted (lt (magnitude fi) interceptEpsilon) (t ⊖ fi) (cond (Ieee.eq (t ⊖ fi) t) (step.Accepted (t ⊖ fi)) (step.Next (t ⊖ fi))) e in
+        record { not-small = a .0; moved = not-accepted (Ieee.eq (t ⊖ fi) t) (t ⊖ fi) (step.Next (t ⊖ fi)) (a .1) .0 }
 
-spd-moves : (k : Chase) (w1 t : Float) → goesOn (intSpdStep k w1 t) ≡ true → SpdMoves k w1 t
+spd-moves : (k : Chase) (w1 t : Float) → goesOn (intSpdStep k w1 t) ≡ true ↔ SpdMoves k w1 t
 unfolding intSpdStep
-spd-moves k w1 t e = moves t (spdCorrection k w1 t) e
+spd-moves k w1 t = moves t (spdCorrection k w1 t)
 
-min-moves : (k : Chase) (t : Float) → goesOn (intMinStep k t) ≡ true → MinMoves k t
+min-moves : (k : Chase) (t : Float) → goesOn (intMinStep k t) ≡ true ↔ MinMoves k t
 unfolding intMinStep
-min-moves k t e =
-    let a = not-accepted (Ieee.eq (sep k t) literal.zero) t (corrected t (minCorrection k t)) e in
-    record { apart = a .0; moves = moves t (minCorrection k t) (a .1) }
+min-moves k t = (to, λ h. rw (h .apart) (moves t (minCorrection k t) .1 (h .moves)))
+  where
+    to : goesOn (intMinStep k t) ≡ true → MinMoves k t
+    to e =
+        let a = not-accepted (Ieee.eq (sep k t) literal.zero) t (corrected t (minCorrection k t)) e in
+        record { apart = a .0; moves = moves t (minCorrection k t) .0 (a .1) }
 
--- ---- number 13
+-- ---- a walk says 13 exactly where fifty steps go on
 
 went-on : (duration : Float → Span) (f : Float → Step) (t : Float) (w : Walk) → Told f t w → numberOf (ofWalk duration w) ≡ 13
     → (i : ℕ) → i < mostSteps → goesOn (f (timeAfter f t i)) ≡ true
@@ -77,25 +87,46 @@ went-on duration f t (walked.ZeroDerivative count) r e i l = absurd (twelve e)
     twelve e = omega arith
 went-on duration f t walked.NotConverged r e i l = r i l
 
-pub thirteen-cpa : (s : Sphere) (own int : Vehicle) → numberOf (timeToCpa s own int) ≡ 13
-    → (i : ℕ) → i < mostSteps → CpaMoves (cpaNew (s .radius) own int) (timeAfter (cpaSteps s own int) cpaStart i)
+-- a step that ends the walk is among the fifty, and does not go on
+ended : (f : Float → Step) (t : Float) (count : ℕ) (s : Step) → Ends f t count s → goesOn s ≡ false
+    → ((i : ℕ) → i < mostSteps → goesOn (f (timeAfter f t i)) ≡ true) → ⊥
+ended f t count s r e h =
+    let some = r .counted .some in
+    let most = r .counted .most in
+    false≢true (sym e ∙ sym (ap goesOn (r .finds)) ∙ h (count - 1) (omega arith))
+
+spent : (duration : Float → Span) (f : Float → Step) (t : Float) (w : Walk) → Told f t w
+    → ((i : ℕ) → i < mostSteps → goesOn (f (timeAfter f t i)) ≡ true) → numberOf (ofWalk duration w) ≡ 13
+spent duration f t (walked.Accepted u count) r h = absurd (ended f t count (step.Accepted u) r refl h)
+spent duration f t (walked.ZeroDerivative count) r h = absurd (ended f t count step.ZeroDerivative r refl h)
+spent duration f t walked.NotConverged r h = refl
+
+means : (duration : Float → Span) (f : Float → Step) (t : Float) (Moving : Float → Type 0) → ((u : Float) → goesOn (f u) ≡ true ↔ Moving u)
+    → numberOf (ofWalk duration (walk f mostSteps t)) ≡ 13 ↔ ((i : ℕ) → i < mostSteps → Moving (timeAfter f t i))
+means duration f t Moving m =
+    let w = walk f mostSteps t in
+    (λ e i l. m (timeAfter f t i) .0 (went-on duration f t w (told f t) e i l), λ h. spent duration f t w (told f t) (λ i l. m (timeAfter f t i) .1 (h i l)))
+
+pub thirteen-cpa : (s : Sphere) (own int : Vehicle)
+    → numberOf (timeToCpa s own int) ≡ 13
+    ↔ ((i : ℕ) → i < mostSteps → CpaMoves (cpaNew (s .radius) own int) (timeAfter (cpaSteps s own int) cpaStart i))
 unfolding timeToCpa
-thirteen-cpa s own int e i l =
-    let f = cpaSteps s own int in
-    cpa-moves (cpaNew (s .radius) own int) (timeAfter f cpaStart i) (went-on fromHours f cpaStart (cpaWalk s own int) (told f cpaStart) e i l)
+thirteen-cpa s own int =
+    let k = cpaNew (s .radius) own int in
+    means fromHours (cpaSteps s own int) cpaStart (CpaMoves k) (cpa-moves k)
 
-pub thirteen-intercept : (s : Sphere) (p : NVector) (v : Speed) (int : Vehicle) → numberOf (timeToIntercept s p v int) ≡ 13
-    → (i : ℕ) → i < mostSteps → SpdMoves (chaseNew (s .radius) p int) (perSecond s v) (timeAfter (interceptSteps s p v int) interceptStart i)
+pub thirteen-intercept : (s : Sphere) (p : NVector) (v : Speed) (int : Vehicle)
+    → numberOf (timeToIntercept s p v int) ≡ 13
+    ↔ ((i : ℕ) → i < mostSteps → SpdMoves (chaseNew (s .radius) p int) (perSecond s v) (timeAfter (interceptSteps s p v int) interceptStart i))
 unfolding timeToIntercept
-thirteen-intercept s p v int e i l =
-    let f = interceptSteps s p v int in
-    spd-moves (chaseNew (s .radius) p int) (perSecond s v) (timeAfter f interceptStart i)
-    (went-on fromSeconds f interceptStart (interceptWalk s p v int) (told f interceptStart) e i l)
+thirteen-intercept s p v int =
+    let k = chaseNew (s .radius) p int in
+    means fromSeconds (interceptSteps s p v int) interceptStart (SpdMoves k (perSecond s v)) (spd-moves k (perSecond s v))
 
-pub thirteen-longest : (s : Sphere) (p : NVector) (int : Vehicle) → numberOf (maxTimeToIntercept s p int) ≡ 13
-    → (i : ℕ) → i < mostSteps → MinMoves (chaseNew (s .radius) p int) (timeAfter (longestSteps s p int) (longestStart s p int) i)
+pub thirteen-longest : (s : Sphere) (p : NVector) (int : Vehicle)
+    → numberOf (maxTimeToIntercept s p int) ≡ 13
+    ↔ ((i : ℕ) → i < mostSteps → MinMoves (chaseNew (s .radius) p int) (timeAfter (longestSteps s p int) (longestStart s p int) i))
 unfolding maxTimeToIntercept
-thirteen-longest s p int e i l =
-    let f = longestSteps s p int in
-    let t = longestStart s p int in
-    min-moves (chaseNew (s .radius) p int) (timeAfter f t i) (went-on fromSeconds f t (longestWalk s p int) (told f t) e i l)
+thirteen-longest s p int =
+    let k = chaseNew (s .radius) p int in
+    means fromSeconds (longestSteps s p int) (longestStart s p int) (MinMoves k) (min-moves k)

@@ -180,7 +180,7 @@ minCorrection k t =
     (firstDerivative k (cos (k .w2 ⊗ t)) (sin (k .w2 ⊗ t)))
     (secondDerivative k (cos (k .w2 ⊗ t)) (sin (k .w2 ⊗ t)))
 
--- "a zero separation (that time), a correction below 1e-11 (the corrected time)"
+-- "a zero separation (that time), a correction below 1e-11 (the corrected time)"; request 2026-05: "The zero-separation test .. stays ahead"
 unfoldable pub intMinStep : Chase → Float → Step
 intMinStep k t = cond (Ieee.eq (sep k t) literal.zero) (step.Accepted t) (corrected t (minCorrection k t))
 
