@@ -321,6 +321,6 @@ fn print_steps(notes: &Notes) {
         println!("| {step} | {:?} | {:e} |", notes.time(step), notes.correction(step));
     }
     let last = last_time(notes);
-    let rounding = last.abs().next_up() - last.abs();
-    println!("\nThat is {:.2} hours; one rounding of that time is {rounding:e} s.", last / 3_600.0);
+    let step = last.abs().next_up() - last.abs();
+    println!("\nThat is {:.2} hours; the next float is {step:e} s away.", last / 3_600.0);
 }
