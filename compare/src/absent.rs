@@ -29,5 +29,6 @@ refused! {
     solves::run() -> std::io::Result<bool>;
     speeds::run() -> std::io::Result<bool>;
     stored::write(&str, &str) -> std::io::Result<()>;
+    thirteen::run(u64) -> ();
     whole::run(u64) -> Result<bool, String>;
 }

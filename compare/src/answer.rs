@@ -105,7 +105,7 @@ impl From<Walk> for Answer {
 
 impl Answer {
     /// Appends the fields as `probe` writes them, with a space between two.
-    /// A refusal that left nanoseconds behind shows them, so that the fault is seen.
+    /// A refusal that altered the number lent to it shows the bits, so that the fault is seen.
     pub fn write(&self, text: &mut Vec<u8>) {
         match self {
             Answer::Byte(byte) => hexadecimal::append(text, *byte as u64, 2),

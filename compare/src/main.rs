@@ -27,21 +27,21 @@ mod stream;
 mod time;
 
 use original::{
-    answering, boards, chases, cost, costs, plot, plots, solves, speeds, stored, whole,
+    answering, boards, chases, cost, costs, plot, plots, solves, speeds, stored, thirteen, whole,
 };
 use std::{env, io, process::ExitCode};
 
 const USAGE: &str = "usage: compare whole [PERCENT] | scale [N] | time | jord [N] | sphere [N] \
-                     | nine [N] | chases [N] | solves | answer | sample STDIN STDOUT | probe [N] | board [N] | plots [N] \
+                     | nine [N] | chases [N] | thirteen [N] | solves | answer | sample STDIN STDOUT | probe [N] | board [N] | plots [N] \
                      | speeds | plot | costs | cost | session STDIN STDOUT";
 const NOT_LINKED: &str =
     "no library: run `rt staticlib exports` in the repository's root, then build again";
 const NOT_BUILT: &str = "no original: put its source in ../../shared/docs/src, or name its folder \
                          in JORD_SRC, then build again";
 /// Commands that need the original.
-const ORIGINAL: [&str; 16] = [
-    "whole", "jord", "sphere", "nine", "chases", "solves", "answer", "sample", "probe", "board",
-    "plots", "speeds", "plot", "costs", "cost", "session",
+const ORIGINAL: [&str; 17] = [
+    "whole", "jord", "sphere", "nine", "chases", "thirteen", "solves", "answer", "sample", "probe",
+    "board", "plots", "speeds", "plot", "costs", "cost", "session",
 ];
 /// How much of all the following numbers the whole comparison meets.
 const PERCENT: u64 = 100;
@@ -51,6 +51,7 @@ const JORD: u64 = 1_000_000;
 const SPHERE: u64 = 2_000_000;
 const NINE: u64 = 1_000_000;
 const CHASES: u64 = 1_000_000;
+const THIRTEEN: u64 = 100_000;
 const PROBE: u64 = 20_000;
 /// Calls of boards, and lines of `plot`.
 const BOARD: u64 = 1_000_000;
@@ -88,6 +89,10 @@ fn run(words: &[&str]) -> Result<bool, String> {
         ["nine", rest @ ..] => piped::nine(count(rest, NINE)?).map_err(unfit),
         ["chases", rest @ ..] => {
             chases::run(count(rest, CHASES)?);
+            Ok(true)
+        }
+        ["thirteen", rest @ ..] => {
+            thirteen::run(count(rest, THIRTEEN)?);
             Ok(true)
         }
         ["solves"] => solves::run().map_err(unfit),

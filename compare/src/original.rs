@@ -1,6 +1,7 @@
 //! The table of the ported functions: one row gives number, arguments, inputs and the original's
 //! call.
 
+mod again;
 pub mod answering;
 mod beside;
 mod board;
@@ -8,6 +9,7 @@ pub mod boards;
 pub mod chases;
 pub mod cost;
 pub mod costs;
+mod ends;
 mod examples;
 mod exchanges;
 mod frame;
@@ -17,11 +19,15 @@ mod playing;
 pub mod plot;
 pub mod plots;
 mod script;
+mod second_solves;
 mod sessions;
 mod shapes;
+mod smallest;
 pub mod solves;
 pub mod speeds;
 pub mod stored;
+mod tables;
+pub mod thirteen;
 mod walks;
 pub mod whole;
 

@@ -40,16 +40,19 @@ exports! {
 }
 
 pub fn from_seconds(t: f64) -> Outcome {
-    stored(|nanoseconds| store_seconds(t, nanoseconds))
+    stored(t, store_seconds)
 }
 
 pub fn from_hours(h: f64) -> Outcome {
-    stored(|nanoseconds| store_hours(h, nanoseconds))
+    stored(h, store_hours)
 }
 
-/// The number returned and the nanoseconds stored; a value that is not stored stays all ones.
-fn stored(store: impl Fn(&mut u64) -> u8) -> Outcome {
-    let mut nanoseconds = u64::MAX;
-    let number = store(&mut nanoseconds);
-    Outcome { number, nanoseconds }
+/// The number returned and the nanoseconds stored; of a refusal, which leaves the number lent to it
+/// as it was, the bits that are not as they were.
+fn stored(time: f64, store: impl Fn(f64, &mut u64) -> u8) -> Outcome {
+    // It varies with the input and is never 0, so nothing that is stored can be taken for it.
+    let lent = time.to_bits().rotate_left(29) | 1;
+    let mut nanoseconds = lent;
+    let number = store(time, &mut nanoseconds);
+    Outcome { number, nanoseconds: if number == 0 { nanoseconds } else { nanoseconds ^ lent } }
 }

@@ -338,12 +338,12 @@ pub fn moved(from: Vector, bearing: f64, angle: f64) -> Vector {
 }
 
 /// From a place to another, less than half a turn.
-fn bearing(from: Vector, to: Vector) -> f64 {
+pub fn bearing(from: Vector, to: Vector) -> f64 {
     let [east, north] = directions(from);
     ground::atan2(dot(to, east), dot(to, north))
 }
 
-fn angle(from: Vector, to: Vector) -> f64 {
+pub fn angle(from: Vector, to: Vector) -> f64 {
     let [east, north] = directions(from);
     let (x, y) = (dot(to, east), dot(to, north));
     ground::atan2((x * x + y * y).sqrt(), dot(to, from))

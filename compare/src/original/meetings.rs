@@ -7,8 +7,9 @@ use std::f64::consts::PI;
 
 /// Seconds: a walk within this of a meeting has closed on it.
 pub const CLOSED: f64 = 1e-3;
-/// Seconds: the search stops this near.
+/// Seconds: the search takes no shorter steps; then it looks just ahead, and no farther than that.
 const NEAR: f64 = 1e-4;
+const FAR: f64 = 1e5;
 const MOST_STEPS: u32 = 1_000_000;
 const HALVINGS: u32 = 80;
 
@@ -38,11 +39,18 @@ impl Pursuit {
             // The gap shrinks no faster than both move, so no step passes a meeting.
             let step = self.gap(seconds) / (self.own_rate + self.rate);
             if step < NEAR {
-                return Some(seconds);
+                return Some(self.next_meeting(seconds));
             }
             seconds += step;
         }
         None
+    }
+
+    /// The meeting just after a time; that time itself if the gap only comes near to closing.
+    fn next_meeting(&self, seconds: f64) -> f64 {
+        let ends = (0..).map(|turn| NEAR * 1.1f64.powi(turn)).take_while(|step| *step < FAR);
+        let past = ends.into_iter().find(|step| self.gap(seconds + step) <= 0.0);
+        past.map_or(seconds, |step| halved([seconds, seconds + step], |t| self.gap(t) > 0.0))
     }
 
     /// The first time at which the speed that a meeting needs is less than just before and after.
@@ -92,6 +100,11 @@ impl Pursuit {
         turns(seconds, 2.0 * CLOSED, |t| self.closing(t))
     }
 
+    /// How far the two on their courses are from each other, in radians.
+    pub fn apart(&self, seconds: f64) -> f64 {
+        between(self.own_at(seconds).0, self.target_at(seconds).0)
+    }
+
     /// What the own ship lacks, in radians.
     fn gap(&self, seconds: f64) -> f64 {
         self.separation(seconds) - self.own_rate * seconds
@@ -99,25 +112,37 @@ impl Pursuit {
 
     /// Below zero while the needed speed falls.
     fn excess(&self, seconds: f64) -> f64 {
-        let (_, way) = moved(self.target, self.rate * seconds);
+        let (_, way) = self.target_at(seconds);
         let separation = self.separation(seconds);
         -seconds * self.rate * dot(self.own[0], way) / separation.sin() - separation
     }
 
     /// From where the own ship is to where the target will be, in radians.
     fn separation(&self, seconds: f64) -> f64 {
-        let ([x, y, z], (place, _)) = (self.own[0], moved(self.target, self.rate * seconds));
-        let [u, v, w] = place;
-        let cross = [y * w - z * v, z * u - x * w, x * v - y * u];
-        dot(cross, cross).sqrt().atan2(dot(self.own[0], place))
+        between(self.own[0], self.target_at(seconds).0)
+    }
+
+    /// Place and way.
+    fn own_at(&self, seconds: f64) -> (Vector, Vector) {
+        moved(self.own, self.own_rate * seconds)
+    }
+
+    fn target_at(&self, seconds: f64) -> (Vector, Vector) {
+        moved(self.target, self.rate * seconds)
     }
 
     /// Above zero while the two on their courses close.
     fn closing(&self, seconds: f64) -> f64 {
-        let (own, ahead) = moved(self.own, self.own_rate * seconds);
-        let (target, way) = moved(self.target, self.rate * seconds);
+        let (own, ahead) = self.own_at(seconds);
+        let (target, way) = self.target_at(seconds);
         self.own_rate * dot(ahead, target) + self.rate * dot(own, way)
     }
+}
+
+/// The angle between two places.
+fn between([x, y, z]: Vector, [u, v, w]: Vector) -> f64 {
+    let cross = [y * w - z * v, z * u - x * w, x * v - y * u];
+    dot(cross, cross).sqrt().atan2(x * u + y * v + z * w)
 }
 
 /// Place and way after an angle.
