@@ -125,7 +125,7 @@ pub sought-is : (ts : Targets) (n x y : ℕ) (r : Sought) → Seeks (ts .entries
     → (r .spot ≡ spotFrom 0 y (listed ts)) × (r .found ≡ find y (listed ts)) × (n ≡ length (listed ts))
 unfolding listed
 sought-is ts n x y r k e f =
-    (k .spot-is ∙ rw (e, f), k .found-is ∙ rw (e, f), e ∙ counted-is (ts .entries) (ts .count) (k .long))
+    (k .spot-is ∙ rw (e, f), k .found-is ∙ rw (e, f), e ∙ counted-is (ts .entries) (ts .count) (k .length-is))
 
 pub answered-is : (b : Board) (c : Call) (a : Answer) (x : Found) (n : ℕ) → RightAnswer (b .radius) (b .own) (b .track) x n c a
     → x ≡ find (nameOf c) (listed (b .targets)) → n ≡ length (listed (b .targets)) → a ≡ answer (plain b) c

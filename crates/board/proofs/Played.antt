@@ -75,8 +75,8 @@ runs-alike r cs rs last q fits ps m rs' last' q' =
       same-board = same;
       same-mean = ap mean same;
       same-answers =
-        ap (paired (exchanged ps cs)) (q' .0) ∙ paired-heard (fresh r) (exchanged ps cs) ∙ a .same-answers
-        ∙ ap (exchanged ps) (sym (ap (paired cs) (q .0) ∙ paired-heard (fresh r) cs));
+          ap (paired (exchanged ps cs)) (q' .0) ∙ paired-heard (fresh r) (exchanged ps cs) ∙ a .same-answers
+          ∙ ap (exchanged ps) (sym (ap (paired cs) (q .0) ∙ paired-heard (fresh r) cs));
     }
 
 pub whole : (r : Float) (b : Board) → plain b ≡ fresh r → Demanded r b

@@ -31,7 +31,7 @@ nameOf (Solve i) = i
 
 -- a search of the first n entries: where the identity stands or would, and what is held under it
 pub record Seeks (es : List Target) (n x : ℕ) (r : Sought) : Type 0 where
-  pub long : length es ≡ mostTargets
+  pub length-is : length es ≡ mostTargets
   pub spot-is : r .spot ≡ spotFrom 0 x (take n es)
   pub found-is : r .found ≡ find x (take n es)
 

@@ -2,19 +2,19 @@
 ghost use mathlib.Core.Path.{_≡_};
 ghost use Rattle.duration.specs.Duration as duration;
 ghost use Rattle.exports.specs.Durations.{stored};
-use duration::Span;
+use duration::Converted;
 
 // Stores the nanoseconds of an answer, if it has them, and gives its number.
-fn store(s: Span, nanoseconds: &mut u64) -> u8
+fn store(s: Converted, nanoseconds: &mut u64) -> u8
     ensures { λ r. ⌜ (r ≡ duration.numberOf s) × (now (nanoseconds .exit) ≡ stored s (now (nanoseconds .entry))) ⌝ }
 {
     match s {
-        Span::Nanoseconds(n) => {
+        Converted::Nanoseconds(n) => {
             *nanoseconds = n;
             0
         }
-        Span::Negative => s.number(),
-        Span::TooLong => s.number(),
+        Converted::Negative => s.number(),
+        Converted::TooLong => s.number(),
     }
 }
 

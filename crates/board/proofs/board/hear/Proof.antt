@@ -61,7 +61,7 @@ place-below c =
     let a = d .before .before .before .before .before .before .before .before .before .args in
     let k = d .before .before .before .before .seek-in .ensures in
     let s = sought-is (a .board .targets) _ _ _ _ k (d .before .before .before .before .before .before .least .ensures) (d .before .before .before .before .before .name-of .ensures) in
-    let w = within-is (a .board) (a .call) _ _ _ _ (k .long) (s .0) (s .1) (d .change-of .ensures) in
+    let w = within-is (a .board) (a .call) _ _ _ _ (k .length-is) (s .0) (s .1) (d .change-of .ensures) in
     let v = subst (λ (r : Change). Within r (atMost (a .board .targets .count))) (c .before .change .given .1) w in
     omega (arith, v, at-most-le (a .board .targets .count))
 
@@ -135,9 +135,9 @@ returns-2 c =
     record {
       answer-is = q;
       board-is =
-        rw (c .total-after .ensures, c .before .before .track-after .ensures, c .before .before .before .own-after .ensures)
-            (changed-is (a .board) (a .call) _ _ _ _ (k .long) (s .0) (s .1) (d .change-of .ensures) _ _ q yes' (arms m .1)
-            (c .before .count-after .ensures ∙ rw (arms m .0, n)));
+          rw (c .total-after .ensures, c .before .before .track-after .ensures, c .before .before .before .own-after .ensures)
+          (changed-is (a .board) (a .call) _ _ _ _ (k .length-is) (s .0) (s .1) (d .change-of .ensures) _ _ q yes' (arms m .1)
+          (c .before .count-after .ensures ∙ rw (arms m .0, n)));
       refused-keeps = λ e. absurd (false≢true (sym e ∙ yes'));
     }
 
