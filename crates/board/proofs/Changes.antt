@@ -29,7 +29,7 @@ use Rattle.board.specs.Call.{vehicle, named}
 use Rattle.board.specs.Board.{answer, after, accepted, targetsAfter, put, swept, leaves, lined, withLine, ownAfter, trackAfter, raised}
 use Rattle.board.specs.Code.{plain, cut}
 use Rattle.board.specs.History.{accepts}
-use Rattle.board.specs.Change.{nameOf, Seeks, Answers, entriesAfter, countAfter, changed, Within, placing, Changes}
+use Rattle.board.specs.Change.{nameOf, Seeks, RightAnswer, entriesAfter, countAfter, changed, Within, placing, RightChange}
 use Rattle.board.proofs.Arrays.{absent, held-below}
 use Rattle.board.proofs.Slots.{at-most-le, at-most-same, stored-is, inserted-is, removed-is, removed-not, take-bared, counted-is, removed-fits, bared-fits, absent-fits}
 use Rattle.board.proofs.Played.{heard-accepted}
@@ -82,12 +82,12 @@ placed i h (At p) ts full q =
 placed i h (Before p) ts full q = (tt, inserted-is ts i (atMost (ts .count)) full refl (Before p) q p h refl)
 
 pub report-changes : (i : ℕ) (f : Fix) (a : Answer) (s : Spot) (x : Found)
-    → Changes (Report i f) a s x (placing s (record { identity = i; held = record { report = vehicle f; line = Bare } }))
-unfolding Changes targetsAfter put named swept leaves
+    → RightChange (Report i f) a s x (placing s (record { identity = i; held = record { report = vehicle f; line = Bare } }))
+unfolding RightChange targetsAfter put named swept leaves
 report-changes i f a s x ts full q e = placed i (record { report = vehicle f; line = Bare }) s ts full q
 
-pub withdraw-removes : (i : ℕ) (a : Answer) (p : ℕ) (x : Found) → Changes (Withdraw i) a (At p) x (Removes p)
-unfolding Changes targetsAfter put named swept leaves listed entriesAfter Within
+pub withdraw-removes : (i : ℕ) (a : Answer) (p : ℕ) (x : Found) → RightChange (Withdraw i) a (At p) x (Removes p)
+unfolding RightChange targetsAfter put named swept leaves listed entriesAfter Within
 withdraw-removes i a p x ts full q e =
     (tt, removed-is ts i (atMost (ts .count)) full refl (At p) q p refl ∙ removed-fits i ts)
 
@@ -95,25 +95,25 @@ not-there : (i p : ℕ) (ts : Targets) → length (ts .entries) ≡ mostTargets 
 unfolding listed
 not-there i p ts full q = removed-not ts i (atMost (ts .count)) full refl (Before p) q p refl
 
-pub withdraw-stays : (i : ℕ) (a : Answer) (p : ℕ) (x : Found) → Changes (Withdraw i) a (Before p) x Stays
-unfolding Changes targetsAfter put named swept leaves Within
+pub withdraw-stays : (i : ℕ) (a : Answer) (p : ℕ) (x : Found) → RightChange (Withdraw i) a (Before p) x Stays
+unfolding RightChange targetsAfter put named swept leaves Within
 withdraw-stays i a p x ts full q e = (tt, stays-is ts ∙ not-there i p ts full q ∙ removed-fits i ts)
 
-pub own-sweeps : (f : Fix) (a : Answer) (s : Spot) (x : Found) → Changes (OwnShip f) a s x Sweeps
-unfolding Changes targetsAfter put named swept leaves Within
+pub own-sweeps : (f : Fix) (a : Answer) (s : Spot) (x : Found) → RightChange (OwnShip f) a s x Sweeps
+unfolding RightChange targetsAfter put named swept leaves Within
 own-sweeps f a s x ts full q e = (tt, sweeps-is ts ∙ bared-fits ts)
 
-pub track-sweeps : (b d : Coordinates) (a : Answer) (s : Spot) (x : Found) → Changes (Track b d) a s x Sweeps
-unfolding Changes targetsAfter put named swept leaves Within
+pub track-sweeps : (b d : Coordinates) (a : Answer) (s : Spot) (x : Found) → RightChange (Track b d) a s x Sweeps
+unfolding RightChange targetsAfter put named swept leaves Within
 track-sweeps b d a s x ts full q e = (tt, sweeps-is ts ∙ bared-fits ts)
 
-pub solve-stays : (i : ℕ) (a : Answer) (s : Spot) → Changes (Solve i) a s Nothing Stays
-unfolding Changes targetsAfter put named swept leaves Within
+pub solve-stays : (i : ℕ) (a : Answer) (s : Spot) → RightChange (Solve i) a s Nothing Stays
+unfolding RightChange targetsAfter put named swept leaves Within
 solve-stays i a s ts full q e =
     (tt, stays-is ts ∙ absent-fits i ts (sym e) ∙ ap (λ (y : Found). take mostTargets (place i (lined a y) (listed ts))) e)
 
-pub solve-changes : (i : ℕ) (a : Answer) (s : Spot) (h : Held) → Changes (Solve i) a s (There h) (placing s (record { identity = i; held = withLine a h }))
-unfolding Changes targetsAfter put named swept leaves
+pub solve-changes : (i : ℕ) (a : Answer) (s : Spot) (h : Held) → RightChange (Solve i) a s (There h) (placing s (record { identity = i; held = withLine a h }))
+unfolding RightChange targetsAfter put named swept leaves
 solve-changes i a s h ts full q e =
     let p = placed i (withLine a h) s ts full q in
     (p .0, p .1 ∙ ap (λ (y : Found). take mostTargets (place i (lined a y) (listed ts))) e)
@@ -125,24 +125,24 @@ pub sought-is : (ts : Targets) (n x y : ℕ) (r : Sought) → Seeks (ts .entries
     → (r .spot ≡ spotFrom 0 y (listed ts)) × (r .found ≡ find y (listed ts)) × (n ≡ length (listed ts))
 unfolding listed
 sought-is ts n x y r k e f =
-    (k .spot-is ∙ rw (e, f), k .found-is ∙ rw (e, f), e ∙ counted-is (ts .entries) (ts .count) (k .long))
+    (k .spot-is ∙ rw (e, f), k .found-is ∙ rw (e, f), e ∙ counted-is (ts .entries) (ts .count) (k .length-is))
 
-pub answered-is : (b : Board) (c : Call) (a : Answer) (x : Found) (n : ℕ) → Answers (b .radius) (b .own) (b .track) x n c a
+pub answered-is : (b : Board) (c : Call) (a : Answer) (x : Found) (n : ℕ) → RightAnswer (b .radius) (b .own) (b .track) x n c a
     → x ≡ find (nameOf c) (listed (b .targets)) → n ≡ length (listed (b .targets)) → a ≡ answer (plain b) c
-unfolding Answers plain
+unfolding RightAnswer plain
 answered-is b c a x n k e f = k (listed (b .targets)) (b .total) e f
 
 -- one that is accepted
 
 module _ (b : Board) (c : Call) (a : Answer) (r : Change) (s : Spot) (x : Found) (full : length (b .targets .entries) ≡ mostTargets)
-    (q : s ≡ spotFrom 0 (nameOf c) (listed (b .targets))) (e : x ≡ find (nameOf c) (listed (b .targets))) (k : Changes c a s x r) where
+    (q : s ≡ spotFrom 0 (nameOf c) (listed (b .targets))) (e : x ≡ find (nameOf c) (listed (b .targets))) (k : RightChange c a s x r) where
   pub within-is : Within r (atMost (b .targets .count))
-  unfolding Changes
+  unfolding RightChange
   within-is = k (b .targets) full q e .0
 
   pub changed-is : (es : List Target) (n : ℕ) → a ≡ answer (plain b) c → accepts a ≡ true
       → es ≡ entriesAfter r (b .targets .entries) → n ≡ countAfter r (atMost (b .targets .count))
       → plain (record { radius = b .radius; own = ownAfter c (b .own); track = trackAfter c (b .track); targets = record { entries = es; count = n }; total = raised a (b .total) })
       ≡ after (plain b) c
-  unfolding Changes plain cut accepted
+  unfolding RightChange plain cut accepted
   changed-is es n answers good ee en = heard-accepted b c a _ answers good (rw (ee, en, k (b .targets) full q e .1))

@@ -66,7 +66,7 @@ module _ (r : Float) (cs : List Call) where
 
   alike : length (identities cs) ≤ mostTargets → (ps : List ℕ) → MayExchange ps cs → Alike r cs ps
   alike fits ps m =
-      let sound : Sound (identities cs) (fresh r) = record { fit = fresh-fit r; known = empty-known (identities cs) } in
+      let sound : Sound (identities cs) (fresh r) = record { fit = fresh-fit r; all-known = empty-known (identities cs) } in
       let both = exchange-list (identities cs) fits (fresh r) ps cs sound (within-identities cs) m in
       record { same-board = both .0; same-mean = ap mean (both .0); same-answers = both .1 }
 

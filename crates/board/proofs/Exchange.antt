@@ -70,7 +70,7 @@ outcome-onto b c i e r (Refused n) = unfold onto in rw (place-find 0 i (b .targe
 
 pub record Sound (ids : List ℕ) (b : Plain) : Type 0 where
   pub fit : Fit b
-  pub known : AllIn ids (b .targets)
+  pub all-known : AllIn ids (b .targets)
 
 -- the call names a member of ids, if any
 unfoldable pub NamesIn : List ℕ → Call → Type 0
@@ -80,7 +80,7 @@ NamesIn ids c = (i : ℕ) → named c ≡ some i → i ≢ 0 → among i ids ≡
 room : (ids : List ℕ) (b : Plain) (i : ℕ) → length ids ≤ mostTargets → Sound ids b → among i ids ≡ true
     → (x : Found) → find i (b .targets) ≡ x → roomAsked x (length (b .targets)) ≡ Yes
 room ids b i h s m Nothing e =
-    let q : length (b .targets) < length ids = pigeons-room 1 i (b .targets) ids (s .fit .rising) (s .known) e m in
+    let q : length (b .targets) < length ids = pigeons-room 1 i (b .targets) ids (s .fit .rising) (s .all-known) e m in
     simp (lt-ltb (length (b .targets)) mostTargets (omega arith))
 room ids b i h s m (There x) e = refl
 
@@ -130,9 +130,9 @@ unfolding NamesIn
 sound-after ids b c m s =
     record {
       fit = fit-after b c (s .fit);
-      known =
-          after-elim (AllIn ids) b c (s .known) (λ e. swept-known ids c (b .targets) (s .known))
-          (λ i x e n. place-known ids 1 i x (b .targets) (omega arith) (s .fit .rising) (m i e n) (s .known));
+      all-known =
+          after-elim (AllIn ids) b c (s .all-known) (λ e. swept-known ids c (b .targets) (s .all-known))
+          (λ i x e n. place-known ids 1 i x (b .targets) (omega arith) (s .fit .rising) (m i e n) (s .all-known));
     }
 
 rising-0 : (ids : List ℕ) (b : Plain) → Sound ids b → RisingFrom 0 (b .targets)

@@ -110,7 +110,7 @@ module _ (s : Setting) (ids : List ℕ) where
         let n = atMost (s .count) in
         let below = held-below i n es p at in
         record {
-          long = length-set es p reported ∙ u .long;
+          length-is = length-set es p reported ∙ u .length-is;
           same =
               u .same
               ∙ sym (ap (map identityOf) (take-set-lt n es p reported below)
@@ -121,7 +121,7 @@ module _ (s : Setting) (ids : List ℕ) where
     unfolding answer after outcome accepted targetsAfter put swept named leaves plain boardOf listed
     puts-turns d =
         let n = atMost (s .count) in
-        let found = found-at es n (u .long) (at-most-le (s .count)) i p at in
+        let found = found-at es n (u .length-is) (at-most-le (s .count)) i p at in
         let done : answer (plain (boardOf s es)) (Report i f) ≡ Done = rw found d in
         let stored = sym (stands-at i (take n es) p at .stored (reported .held)) ∙ sym (take-set-lt n es p reported (held-below i n es p at)) in
         record { answers = done; leaves = rw (done, stored) }
@@ -147,7 +147,7 @@ record Sets (c : Call) (a : Answer) : Type 0 where
 -- an own ship or a track that is accepted
 module _ (s : Setting) (ids : List ℕ) (c : Call) (a : Answer) (k : Sets c a) (yes : accepts a ≡ true) (es : List Target) (u : Under s ids es) where
   sweeps-under : Under (setBy c s) ids (map bareTarget es)
-  sweeps-under = record { long = length-map bareTarget es ∙ u .long; same = u .same ∙ sym (bared-names (atMost (s .count)) es) }
+  sweeps-under = record { length-is = length-map bareTarget es ∙ u .length-is; same = u .same ∙ sym (bared-names (atMost (s .count)) es) }
 
   sweeps-turns : Turns (boardOf s es) c Done (boardOf (setBy c s) (map bareTarget es))
   unfolding after outcome accepted targetsAfter put plain boardOf listed

@@ -15,7 +15,7 @@ pub mod Demand3
 pub mod Played
 pub mod Loops
 pub mod Picks
-pub mod Parts
+pub mod Columns
 pub mod Means
 pub mod Glances
 pub mod Changes

@@ -1,17 +1,19 @@
 -- Every list of calls of the code answers as the plain board does and leaves its board: demand 3 of the code.
 use mathlib.Core.Bool.{true, false}
-use mathlib.Core.List.{List, _∷_}
+use mathlib.Core.List.{List, [], _∷_}
 use mathlib.Core.Path.{_≡_, refl, sym, _∙_, ap, ap₂}
 use lib.Ieee.{Float}
 use lib.ListN.{length}
 use lib.Seq.{take-all}
-use Prim.Native.Nat.{_≤_}
+use Prim.Native.Nat.{ℕ, _≤_}
 use Rattle.board.specs.declared.state.Board.{Board}
 use Rattle.board.specs.declared.call.Call.{Call}
 use Rattle.board.specs.declared.call.Answer.{Answer}
 use Rattle.board.specs.Board.{Plain, fresh, answer, accepted, outcome, after, run, answers}
-use Rattle.board.specs.Code.{plain, cut, Played, ended, then, Demanded}
-use Rattle.board.specs.History.{accepts}
+use Rattle.board.specs.Code.{plain, cut, Played, ended, then, paired, RunsAlike, Demanded}
+use Rattle.board.specs.Asking.{mean}
+use Rattle.board.specs.History.{Heard, heard, accepts}
+use Rattle.board.specs.Exchange.{identities, exchanged, MayExchange}
 use Rattle.board.proofs.Slots.{listed-le}
 use Rattle.board.proofs.Steps.{not-accepted, is-accepted}
 use Rattle.board.proofs.Room.{room-after}
@@ -45,15 +47,44 @@ unfolding run answers
 played ended = (refl, refl)
 played (then {cs = cs} r h p) =
     let rest = played p in (
-      ap₂ _∷_ (h .0) (rest .0 ∙ ap (λ (k : Plain). answers k cs) (h .1)),
-      rest .1 ∙ ap (λ (k : Plain). run k cs) (h .1),
+      ap₂ _∷_ (h .answer-is) (rest .0 ∙ ap (λ (k : Plain). answers k cs) (h .board-is)),
+      rest .1 ∙ ap (λ (k : Plain). run k cs) (h .board-is),
     )
+
+-- from a board that stands for a fresh one
+played-fresh : (r : Float) {b last : Board} {cs : List Call} {rs : List Answer} → plain b ≡ fresh r → Played b cs rs last
+    → (rs ≡ answers (fresh r) cs) × (plain last ≡ run (fresh r) cs)
+played-fresh r {cs = cs} e p =
+    let q = played p in (q .0 ∙ ap (λ (k : Plain). answers k cs) e, q .1 ∙ ap (λ (k : Plain). run k cs) e)
+
+-- calls paired with the plain board's answers are what it heard
+paired-heard : (b : Plain) (cs : List Call) → paired cs (answers b cs) ≡ heard b cs
+unfolding paired answers heard
+paired-heard b [] = refl
+paired-heard b (c ∷ cs) = ap (λ (hs : List Heard). record { call = c; reply = answer b c } ∷ hs) (paired-heard (after b c) cs)
+
+-- two runs of the code are alike where the plain board's are
+runs-alike : (r : Float) (cs : List Call) (rs : List Answer) (last : Board) → (rs ≡ answers (fresh r) cs) × (plain last ≡ run (fresh r) cs)
+    → length (identities cs) ≤ mostTargets → (ps : List ℕ) → MayExchange ps cs
+    → (rs' : List Answer) (last' : Board) → (rs' ≡ answers (fresh r) (exchanged ps cs)) × (plain last' ≡ run (fresh r) (exchanged ps cs))
+    → RunsAlike ps cs rs last rs' last'
+runs-alike r cs rs last q fits ps m rs' last' q' =
+    let a = demand-3 r cs .exchange fits ps m in
+    let same : plain last' ≡ plain last = q' .1 ∙ a .same-board ∙ sym (q .1) in
+    record {
+      same-board = same;
+      same-mean = ap mean same;
+      same-answers =
+          ap (paired (exchanged ps cs)) (q' .0) ∙ paired-heard (fresh r) (exchanged ps cs) ∙ a .same-answers
+          ∙ ap (exchanged ps) (sym (ap (paired cs) (q .0) ∙ paired-heard (fresh r) cs));
+    }
 
 pub whole : (r : Float) (b : Board) → plain b ≡ fresh r → Demanded r b
 whole r b e cs rs last p =
-    let q = played p in
+    let q = played-fresh r e p in
     record {
-      answers-are = q .0 ∙ ap (λ (k : Plain). answers k cs) e;
-      board-is = q .1 ∙ ap (λ (k : Plain). run k cs) e;
+      answers-are = q .0;
+      board-is = q .1;
       demand = demand-3 r cs;
+      exchange = λ fits ps m b' rs' last' e' p'. runs-alike r cs rs last q fits ps m rs' last' (played-fresh r e' p');
     }

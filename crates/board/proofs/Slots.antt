@@ -66,8 +66,8 @@ module _ {A : Type 0} where
 
 -- the list of an array with n entries in force
 module _ (ts : List Target) (n : ℕ) (full : length ts ≡ mostTargets) (small : n ≤ mostTargets) (x : ℕ) where
-  long : length (take n ts) ≡ n
-  long = length-take-le n ts (omega arith)
+  length-taken : length (take n ts) ≡ n
+  length-taken = length-take-le n ts (omega arith)
 
   pub found-at : (p : ℕ) → spotFrom 0 x (take n ts) ≡ At p → find x (take n ts) ≡ There (getD ts p absent .held)
   found-at p e = stands-at x (take n ts) p e .looked ∙ ap (λ (t : Target). There (t .held)) (getD-take n ts p absent (held-below x n ts p e))
@@ -81,7 +81,7 @@ module _ (ts : List Target) (n : ℕ) (full : length ts ≡ mostTargets) (small 
       let s = stands-at x (take n ts) p e .stored h in
       rw (at-most-same n small, ← s)
       (take-set-lt n ts p (record { identity = x; held = h }) (held-below x n ts p e)
-      ∙ sym (take-all mostTargets (set (take n ts) p (record { identity = x; held = h })) (rw length-set (omega (arith, long)))))
+      ∙ sym (take-all mostTargets (set (take n ts) p (record { identity = x; held = h })) (rw length-set (omega (arith, length-taken)))))
 
   -- where there is room
   inserted-by : (p : ℕ) (h : Held) → spotFrom 0 x (take n ts) ≡ Before p → n < mostTargets
@@ -90,7 +90,7 @@ module _ (ts : List Target) (n : ℕ) (full : length ts ≡ mostTargets) (small 
       let s = belongs-at x (take n ts) p e .placed h in
       let low : p ≤ n = free-below x n ts p e in
       let l : length (insertAt p (record { identity = x; held = h }) (take n ts)) ≤ mostTargets =
-      rw (length-append, length-take-le p (take n ts) (omega (arith, long)), length-drop, long) (omega arith) in
+      rw (length-append, length-take-le p (take n ts) (omega (arith, length-taken)), length-drop, length-taken) (omega arith) in
       rw (at-most-same (n + 1) (omega arith), ← s)
       (first-inserted ts n p full small (record { identity = x; held = h }) low room
       ∙ sym (take-all mostTargets (insertAt p (record { identity = x; held = h }) (take n ts)) l))

@@ -99,12 +99,12 @@ told-next i x hs h t = go (says i (h .call) (h .reply))
     go (reports f loud is ok gives) = rw (gives x) (reported-now i f hs h is ok)
     go (withdraws loud gives) = rw (gives x) tt
 
-told : (i : ℕ) (x : Option Vehicle) (before hs : List Heard) → Told i x before → Told i (lastReport i x hs) (before ++ hs)
+told-after : (i : ℕ) (x : Option Vehicle) (before hs : List Heard) → Told i x before → Told i (lastReport i x hs) (before ++ hs)
 unfolding lastReport
-told i x before [] t = subst (λ (k : List Heard). Told i x k) (sym (append-nil before)) t
-told i x before (h ∷ hs) t =
+told-after i x before [] t = subst (λ (k : List Heard). Told i x k) (sym (append-nil before)) t
+told-after i x before (h ∷ hs) t =
     subst (λ (k : List Heard). Told i (lastReport i (hearReport i (h .call) (h .reply) x) hs) k) (append-assoc before (h ∷ []) hs)
-    (told i (hearReport i (h .call) (h .reply) x) (before ++ (h ∷ [])) hs (told-next i x before h t))
+    (told-after i (hearReport i (h .call) (h .reply) x) (before ++ (h ∷ [])) hs (told-next i x before h t))
 
 told-some : (i : ℕ) (x : Option Vehicle) (hs : List Heard) (v : Vehicle) → Told i x hs → x ≡ some v → LastReported i v hs
 told-some i x hs v t e = subst (λ (y : Option Vehicle). Told i y hs) e t
@@ -144,4 +144,4 @@ back i v hs l =
     ∙ ap some (sym (l .of-fix))
 
 pub last-reported : (i : ℕ) (v : Vehicle) (hs : List Heard) → (lastReport i none hs ≡ some v) ↔ LastReported i v hs
-last-reported i v hs = (λ e. told-some i (lastReport i none hs) hs v (told i none [] hs tt) e, λ l. back i v hs l)
+last-reported i v hs = (λ e. told-some i (lastReport i none hs) hs v (told-after i none [] hs tt) e, λ l. back i v hs l)

@@ -21,9 +21,10 @@ use Rattle.board.specs.declared.targets.Target.{Target}
 use Rattle.board.specs.declared.call.Refusal.the-variants.{NoMeeting}
 use Rattle.board.specs.declared.asking.Choice.{Choice}
 use Rattle.board.specs.declared.asking.Choice.the-variants as choice
-use Rattle.board.specs.declared.asking.Parts.{Parts}
+use Rattle.board.specs.declared.asking.Columns.{Columns}
 use Rattle.board.specs.declared.asking.Best.{Best}
 use Rattle.board.specs.declared.asking.Best.the-variants.{Missing, At}
+use Rattle.board.specs.Call.{numberOf}
 use Rattle.board.specs.Board.{Plain}
 
 -- ---- the mean
@@ -49,8 +50,8 @@ yOf t = vectorOf t .y
 abbrev pub zOf : Target → Float
 zOf t = vectorOf t .z
 
-abbrev pub partsOf : List Target → Parts
-partsOf ts = record { xs = map xOf ts; ys = map yOf ts; zs = map zOf ts }
+abbrev pub columnsOf : List Target → Columns
+columnsOf ts = record { xs = map xOf ts; ys = map yOf ts; zs = map zOf ts }
 
 -- the positions of such parts, the numbers as they are
 abbrev pub positions : List Float → List Float → List Float → List NVector
@@ -60,8 +61,8 @@ positions (x ∷ xs) (y ∷ ys) [] = []
 positions (x ∷ xs) (y ∷ ys) (z ∷ zs) = nvectorNew (parts x y z) ∷ positions xs ys zs
 
 -- the i-th of them, where there are as many
-abbrev pub positionAt : List Float → List Float → List Float → ℕ → NVector
-positionAt xs ys zs i = nvectorNew (parts (getD xs i nan) (getD ys i nan) (getD zs i nan))
+abbrev pub columnPosition : List Float → List Float → List Float → ℕ → NVector
+columnPosition xs ys zs i = nvectorNew (parts (getD xs i nan) (getD ys i nan) (getD zs i nan))
 
 -- ---- pick
 
@@ -80,6 +81,16 @@ lineTime (With l) = foundTime (l .meeting)
 -- the found meeting time of a target's line, if there is one
 abbrev pub meetingTime : Target → Option ℕ
 meetingTime t = lineTime (t .held .line)
+
+-- the number of an answer to a pick; 0 is done
+abbrev pub choiceNumber : Choice → ℕ
+choiceNumber (choice.Target i) = 0
+choiceNumber (choice.Refused r) = numberOf r
+
+-- its value, the identity; 0, which no target has, when refused
+abbrev pub choiceIdentity : Choice → ℕ
+choiceIdentity (choice.Target i) = i
+choiceIdentity (choice.Refused r) = 0
 
 -- "a target whose meeting time is least (which among equals is free)": one of this identity stands in the list, it has a found meeting
 -- time, and no target of the list has a lesser one

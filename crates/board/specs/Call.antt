@@ -1,4 +1,4 @@
--- What is made of the numbers handed over, the target that a call names, and the numbers of the refusals. Definitions only.
+-- What is made of the numbers handed over, the target that a call names, and the number and values of each answer. Definitions only.
 use Prim.Native.Nat.{ℕ}
 use mathlib.Core.Option.{Option, some, none}
 use Rattle.jord.specs.Angle.{fromRadians}
@@ -9,10 +9,13 @@ use Rattle.jord.specs.Vehicle as vehicles
 use Rattle.jord.specs.declared.positions.NVector.{NVector}
 use Rattle.jord.specs.declared.vehicle.Vehicle.{Vehicle}
 use Rattle.board.specs.declared.line.Ends.{Ends}
+use Rattle.board.specs.declared.line.Line.{Line}
 use Rattle.board.specs.declared.call.Coordinates.{Coordinates}
 use Rattle.board.specs.declared.call.Fix.{Fix}
 use Rattle.board.specs.declared.call.Call.{Call}
 use Rattle.board.specs.declared.call.Call.the-variants.{Report, Withdraw, OwnShip, Track, Solve}
+use Rattle.board.specs.declared.call.Answer.{Answer}
+use Rattle.board.specs.declared.call.Answer.the-variants.{Done, Solved, Refused}
 use Rattle.board.specs.declared.call.Refusal.{Refusal}
 use Rattle.board.specs.declared.call.Refusal.the-variants.{RadiusNotPositive, IdentityZero, NotFinite, NotUnit, SpeedNegative, NoGreatCircle, NotHeld, BoardFull, NoOwnShip, NoTrack, NoMeeting}
 
@@ -48,3 +51,15 @@ numberOf BoardFull = 9
 numberOf NoOwnShip = 10
 numberOf NoTrack = 11
 numberOf NoMeeting = 19
+
+-- the number of an answer to a call; 0 is done
+abbrev pub answerNumber : Answer → ℕ
+answerNumber Done = 0
+answerNumber (Solved l) = 0
+answerNumber (Refused r) = numberOf r
+
+-- its values: "Solve: makes, stores and returns that target's line"; no other answer has any
+abbrev pub answerLine : Answer → Option Line
+answerLine Done = none
+answerLine (Solved l) = some l
+answerLine (Refused r) = none

@@ -31,13 +31,13 @@ nameOf (Solve i) = i
 
 -- a search of the first n entries: where the identity stands or would, and what is held under it
 pub record Seeks (es : List Target) (n x : ℕ) (r : Sought) : Type 0 where
-  pub long : length es ≡ mostTargets
+  pub length-is : length es ≡ mostTargets
   pub spot-is : r .spot ≡ spotFrom 0 x (take n es)
   pub found-is : r .found ≡ find x (take n es)
 
 -- this is the answer to a call of every board with these parts, n targets, and this held under the identity that the call names
-unfoldable pub Answers : Float → Own → Tracked → Found → ℕ → Call → Answer → Type 0
-Answers r o t x n c a =
+unfoldable pub RightAnswer : Float → Own → Tracked → Found → ℕ → Call → Answer → Type 0
+RightAnswer r o t x n c a =
     (l : List Target) (k : ℕ) → x ≡ find (nameOf c) l → n ≡ length l
     → a ≡ answer (record { radius = r; own = o; track = t; targets = l; total = k }) c
 
@@ -76,7 +76,7 @@ placing (Before p) t = Inserts p t
 
 -- the change is right for all targets among which the identity that the call names has this spot and this is held under it: the array
 -- then stands for the plain board's targets after the call
-unfoldable pub Changes : Call → Answer → Spot → Found → Change → Type 0
-Changes c a s x r =
+unfoldable pub RightChange : Call → Answer → Spot → Found → Change → Type 0
+RightChange c a s x r =
     (ts : Targets) → length (ts .entries) ≡ mostTargets → s ≡ spotFrom 0 (nameOf c) (listed ts) → x ≡ find (nameOf c) (listed ts)
     → Within r (atMost (ts .count)) × (listed (changed r ts) ≡ take mostTargets (targetsAfter c a (listed ts)))

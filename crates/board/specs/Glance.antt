@@ -38,7 +38,7 @@ boardOf s es = record { radius = s .radius; own = s .own; track = s .track; targ
 
 -- the targets that stand have these identities
 pub record Under (s : Setting) (ids : List ℕ) (es : List Target) : Type 0 where
-  pub long : length es ≡ mostTargets
+  pub length-is : length es ≡ mostTargets
   pub same : take (atMost (s .count)) ids ≡ map identityOf (take (atMost (s .count)) es)
 
 -- a call is answered so by a board, and leaves one that stands for the same as another

@@ -25,6 +25,28 @@ pub enum Choice {
     Refused(Refusal),
 }
 
+impl Choice {
+    // Document 01's number of the answer, 0 where a target is picked.
+    pub fn number(self) -> u8
+        ensures { λ r. ⌜ r ≡ spec.choiceNumber self ⌝ }
+    {
+        match self {
+            Choice::Target(_) => 0,
+            Choice::Refused(refusal) => refusal.number(),
+        }
+    }
+
+    // The identity picked, 0 where there is none.
+    pub fn identity(self) -> u16
+        ensures { λ r. ⌜ r ≡ spec.choiceIdentity self ⌝ }
+    {
+        match self {
+            Choice::Target(identity) => identity,
+            Choice::Refused(_) => 0,
+        }
+    }
+}
+
 // The least meeting time so far.
 enum Best {
     Missing,
@@ -32,7 +54,7 @@ enum Best {
 }
 
 // The parts of 64 positions.
-struct Parts {
+struct Columns {
     xs: [f64; MOST_TARGETS],
     ys: [f64; MOST_TARGETS],
     zs: [f64; MOST_TARGETS],
@@ -51,11 +73,11 @@ pub fn mean(board: Board) -> Mean
 {
     let targets = board.targets;
     let entries = targets.entries;
-    mean_of(parts_of(entries), least(targets.count))
+    mean_of(columns_of(entries), least(targets.count))
 }
 
 // The mean of the first n positions.
-fn mean_of(ps: Parts, n: usize) -> Mean
+fn mean_of(ps: Columns, n: usize) -> Mean
     requires { ⌜ n ≤ length (spec.positions (ps .xs) (ps .ys) (ps .zs)) ⌝ }
     ensures { λ r. ⌜ r ≡ means.meanOf (take n (spec.positions (ps .xs) (ps .ys) (ps .zs))) ⌝ }
 {
@@ -69,15 +91,15 @@ fn mean_of(ps: Parts, n: usize) -> Mean
         return Mean::Antipodal;
     }
     if n == 1 {
-        return Mean::Position(position_at(&xs, &ys, &zs, 0));
+        return Mean::Position(column_position(&xs, &ys, &zs, 0));
     }
     let s = sum(&xs, &ys, &zs, n);
     Mean::Position(NVector::new(Vec3::new_unit(s.x, s.y, s.z)))
 }
 
 // The parts of the positions of all entries, taken out once: numbers can be lent, an array of targets is copied at each call.
-fn parts_of(entries: [Target; MOST_TARGETS]) -> Parts
-    ensures { λ r. ⌜ (r ≡ spec.partsOf entries) × (length entries ≡ mostTargets) ⌝ }
+fn columns_of(entries: [Target; MOST_TARGETS]) -> Columns
+    ensures { λ r. ⌜ (r ≡ spec.columnsOf entries) × (length entries ≡ mostTargets) ⌝ }
 {
     let mut xs = [0.0; MOST_TARGETS];
     let mut ys = [0.0; MOST_TARGETS];
@@ -90,7 +112,7 @@ fn parts_of(entries: [Target; MOST_TARGETS]) -> Parts
         zs[i] = v.z;
         i += 1;
     }
-    Parts { xs, ys, zs }
+    Columns { xs, ys, zs }
 }
 
 // The position of a target, as a vector.
@@ -103,9 +125,9 @@ fn vector_of(t: Target) -> Vec3
 }
 
 // The i-th position, counted from 0.
-fn position_at(xs: &[f64], ys: &[f64], zs: &[f64], i: usize) -> NVector
+fn column_position(xs: &[f64], ys: &[f64], zs: &[f64], i: usize) -> NVector
     requires { ⌜ i < length (spec.positions (now xs) (now ys) (now zs)) ⌝ }
-    ensures { λ r. ⌜ r ≡ spec.positionAt (now (xs .entry)) (now (ys .entry)) (now (zs .entry)) i ⌝ }
+    ensures { λ r. ⌜ r ≡ spec.columnPosition (now (xs .entry)) (now (ys .entry)) (now (zs .entry)) i ⌝ }
 {
     NVector::new(Vec3 {
         x: xs[i],
@@ -121,7 +143,7 @@ fn contains_antipodal(xs: &[f64], ys: &[f64], zs: &[f64], n: usize) -> bool
 {
     let mut i = 0;
     while i < n {
-        if contains(xs, ys, zs, n, position_at(xs, ys, zs, i).antipode()) {
+        if contains(xs, ys, zs, n, column_position(xs, ys, zs, i).antipode()) {
             return true;
         }
         i += 1;
@@ -140,7 +162,7 @@ fn contains(xs: &[f64], ys: &[f64], zs: &[f64], n: usize, a: NVector) -> bool
     }
     let mut i = 0;
     while i < n {
-        if position_at(xs, ys, zs, i).eq(a) {
+        if column_position(xs, ys, zs, i).eq(a) {
             return true;
         }
         i += 1;
@@ -170,7 +192,7 @@ fn sum(xs: &[f64], ys: &[f64], zs: &[f64], n: usize) -> Vec3
     let mut s = Vec3::ZERO;
     let mut i = 0;
     while i < n {
-        s = plus(s, position_at(xs, ys, zs, i));
+        s = plus(s, column_position(xs, ys, zs, i));
         i += 1;
     }
     s

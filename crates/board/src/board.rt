@@ -4,7 +4,7 @@ ghost use Rattle.board.specs.Board as spec;
 ghost use Rattle.board.specs.Change as code;
 ghost use mathlib.Core.Bool.{not};
 ghost use Prim.Native.Nat.{_≤_};
-ghost use Rattle.board.specs.Code.{plain, Demanded};
+ghost use Rattle.board.specs.Code.{plain, Answers, Demanded};
 ghost use Rattle.board.specs.History.{accepts};
 ghost use Rattle.board.specs.Targets.{mostTargets};
 use crate::call::Answer;
@@ -66,35 +66,35 @@ pub fn fresh(radius: f64) -> Answered
 
 // Places or replaces a target, without a line.
 pub fn report(board: Board, identity: u16, fix: Fix) -> Answered
-    ensures { λ r. ⌜ (r .answer ≡ spec.answer (plain board) (Call.Report identity fix)) × (plain (r .board) ≡ spec.after (plain board) (Call.Report identity fix)) ⌝ }
+    ensures { λ r. ⌜ Answers board (Call.Report identity fix) r ⌝ }
 {
     hear(board, Call::Report(identity, fix))
 }
 
 // Removes a target.
 pub fn withdraw(board: Board, identity: u16) -> Answered
-    ensures { λ r. ⌜ (r .answer ≡ spec.answer (plain board) (Call.Withdraw identity)) × (plain (r .board) ≡ spec.after (plain board) (Call.Withdraw identity)) ⌝ }
+    ensures { λ r. ⌜ Answers board (Call.Withdraw identity) r ⌝ }
 {
     hear(board, Call::Withdraw(identity))
 }
 
 // Sets the own ship and takes every line away.
 pub fn own_ship(board: Board, fix: Fix) -> Answered
-    ensures { λ r. ⌜ (r .answer ≡ spec.answer (plain board) (Call.OwnShip fix)) × (plain (r .board) ≡ spec.after (plain board) (Call.OwnShip fix)) ⌝ }
+    ensures { λ r. ⌜ Answers board (Call.OwnShip fix) r ⌝ }
 {
     hear(board, Call::OwnShip(fix))
 }
 
 // Sets the track and takes every line away.
 pub fn track(board: Board, start: Coordinates, end: Coordinates) -> Answered
-    ensures { λ r. ⌜ (r .answer ≡ spec.answer (plain board) (Call.Track start end)) × (plain (r .board) ≡ spec.after (plain board) (Call.Track start end)) ⌝ }
+    ensures { λ r. ⌜ Answers board (Call.Track start end) r ⌝ }
 {
     hear(board, Call::Track(start, end))
 }
 
 // Makes, stores and returns a target's line, and adds its three counts to the total.
 pub fn solve(board: Board, identity: u16) -> Answered
-    ensures { λ r. ⌜ (r .answer ≡ spec.answer (plain board) (Call.Solve identity)) × (plain (r .board) ≡ spec.after (plain board) (Call.Solve identity)) ⌝ }
+    ensures { λ r. ⌜ Answers board (Call.Solve identity) r ⌝ }
 {
     hear(board, Call::Solve(identity))
 }
@@ -102,7 +102,7 @@ pub fn solve(board: Board, identity: u16) -> Answered
 // Any call: its answer, and the board after it. A refused call changes nothing.
 // The entries are long: they are held once here and changed in place.
 pub fn hear(board: Board, call: Call) -> Answered
-    ensures { λ r. ⌜ (r .answer ≡ spec.answer (plain board) call) × (plain (r .board) ≡ spec.after (plain board) call) ⌝ }
+    ensures { λ r. ⌜ Answers board call r ⌝ }
 {
     let own = board.own;
     let track = board.track;
@@ -173,7 +173,7 @@ pub fn refuses(answer: Answer) -> bool
 // The questions of a call in their order, put to the parts of a board: n targets stand, and this is held under the identity that is named.
 // The first no refuses it.
 fn answer_of(radius: f64, own: Own, track: Tracked, found: Found, n: usize, call: Call) -> Answer
-    ensures { λ r. ⌜ code.Answers radius own track found n call r ⌝ }
+    ensures { λ r. ⌜ code.RightAnswer radius own track found n call r ⌝ }
 {
     match call {
         Call::Report(identity, fix) => ask(
@@ -275,7 +275,7 @@ fn seek_in(entries: [Target; MOST_TARGETS], n: usize, identity: u16) -> Sought
 
 // What an accepted call with this answer does to the targets, where the identity that it names stands there and this is held under it.
 fn change_of(call: Call, answer: Answer, spot: Spot, found: Found) -> Change
-    ensures { λ r. ⌜ code.Changes call answer spot found r ⌝ }
+    ensures { λ r. ⌜ code.RightChange call answer spot found r ⌝ }
 {
     match call {
         Call::Report(identity, fix) => {

@@ -86,6 +86,19 @@ pub enum Answer {
     Refused(Refusal),
 }
 
+impl Answer {
+    // Document 01's number of the answer, 0 where it is done.
+    pub fn number(self) -> u8
+        ensures { λ r. ⌜ r ≡ spec.answerNumber self ⌝ }
+    {
+        match self {
+            Answer::Done => 0,
+            Answer::Solved(_) => 0,
+            Answer::Refused(refusal) => refusal.number(),
+        }
+    }
+}
+
 // The position of three numbers: a part of -0.0 is made +0.0.
 pub fn position(c: Coordinates) -> NVector
     ensures { λ r. ⌜ r ≡ spec.position c ⌝ }

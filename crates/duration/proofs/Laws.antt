@@ -7,30 +7,30 @@ use lib.Dec.{T, lit<}
 use lib.Ieee.{Float, le}
 use lib.Ieee.Nearest.{closest-mono, div-mono}
 use lib.Ieee.Positive.{num, den, den-pos}
-use Rattle.duration.specs.declared.Span.the-variants.{Nanoseconds}
-use Rattle.duration.specs.Duration.{second, longest, zeroOrMore, belowLimit, exactNanoseconds, product, productBelow, productNanoseconds, halfAway, fromSeconds, fromHours}
+use Rattle.duration.specs.declared.Converted.the-variants.{Nanoseconds}
+use Rattle.duration.specs.Duration.{second, limitNanoseconds, zeroOrMore, belowLimit, exactNanoseconds, product, productBelow, productNanoseconds, halfAway, fromSeconds, fromHours}
 use Rattle.duration.proofs.Order.{le-cross}
 use Rattle.duration.proofs.Questions.{found}
-use Rattle.duration.proofs.Range.{within-limit, within-longest}
+use Rattle.duration.proofs.Range.{within-limit, within-limit-nanoseconds}
 
 -- ---- the bound
-pub longest-fits : longest < 2 ^ 64
-longest-fits = lit< tt
+pub limit-nanoseconds-fits : limitNanoseconds < 2 ^ 64
+limit-nanoseconds-fits = lit< tt
 
-pub seconds-bound : (t : Float) (n : ℕ) → fromSeconds t ≡ Nanoseconds n → n ≤ longest
+pub seconds-bound : (t : Float) (n : ℕ) → fromSeconds t ≡ Nanoseconds n → n ≤ limitNanoseconds
 unfolding fromSeconds
 seconds-bound t n e =
     let f = found (zeroOrMore t) (belowLimit t) (exactNanoseconds t) n e in
     let b = within-limit t (f .first) (f .second) .below in
-    subst (λ (m : ℕ). m ≤ longest) (f .is) (closest-mono (num t * second) (den t) longest 1 (den-pos t) (zero-lt-suc 0) (omega arith))
+    subst (λ (m : ℕ). m ≤ limitNanoseconds) (f .is) (closest-mono (num t * second) (den t) limitNanoseconds 1 (den-pos t) (zero-lt-suc 0) (omega arith))
 
-pub hours-bound : (h : Float) (n : ℕ) → fromHours h ≡ Nanoseconds n → n ≤ longest
+pub hours-bound : (h : Float) (n : ℕ) → fromHours h ≡ Nanoseconds n → n ≤ limitNanoseconds
 unfolding fromHours
 hours-bound h n e =
     let f = found (zeroOrMore h) (productBelow h) (productNanoseconds h) n e in
     let p = product h in
-    let b = within-longest h (f .first) (f .second) .below in
-    subst (λ (m : ℕ). m ≤ longest) (f .is) (div-mono (2 * num p + den p) (2 * den p) (2 * longest + 1) 2 (mul-pos (zero-lt-suc 1) (den-pos p)) (zero-lt-suc 1) (omega arith))
+    let b = within-limit-nanoseconds h (f .first) (f .second) .below in
+    subst (λ (m : ℕ). m ≤ limitNanoseconds) (f .is) (div-mono (2 * num p + den p) (2 * den p) (2 * limitNanoseconds + 1) 2 (mul-pos (zero-lt-suc 1) (den-pos p)) (zero-lt-suc 1) (omega arith))
 
 -- ---- more seconds are no fewer nanoseconds
 pub seconds-mono : (s t : Float) (m n : ℕ) → T (le s t) → fromSeconds s ≡ Nanoseconds m → fromSeconds t ≡ Nanoseconds n → m ≤ n

@@ -4,7 +4,7 @@ use Prim.Native.Nat.{ℕ}
 use native.Mathlib.Omega.{arith}
 use mathlib.Core.Bool.{Bool, true, false, not, true≢false}
 use lib.Dec.{T}
-use Rattle.duration.specs.declared.Span.the-variants.{Nanoseconds, Negative, TooLong}
+use Rattle.duration.specs.declared.Converted.the-variants.{Nanoseconds, Negative, TooLong}
 use Rattle.duration.specs.Duration.{asked}
 
 pub yes : (a : Bool) → not a ≡ false → T a

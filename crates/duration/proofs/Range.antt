@@ -12,10 +12,10 @@ use lib.Ieee.Fits.{mul-fits}
 use lib.Ieee.Nearest.{closest, closest-same}
 use lib.Ieee.Positive.{num, den, den-pos}
 use Rattle.float.specs.Bits.{signBit, partsOf}
-use Rattle.float.specs.declared.bits.Parts.{Parts}
+use Rattle.float.specs.declared.bits.Unpacked.{Unpacked}
 use Rattle.float.proofs.Value.{HasParts, parts-value}
 use Rattle.float.specs.Operators.{whole}
-use Rattle.duration.specs.Duration.{second, hour, limit, longest, zeroOrMore, belowLimit, product, productBelow, halfAway, exactNanoseconds}
+use Rattle.duration.specs.Duration.{second, hour, limit, limitNanoseconds, zeroOrMore, belowLimit, product, productBelow, halfAway, exactNanoseconds}
 use Rattle.duration.proofs.Order.{Within, within, zero-or-more-times}
 use Rattle.duration.proofs.Questions.{yes}
 use Rattle.duration.proofs.Rounding.{half-same}
@@ -25,9 +25,9 @@ pub within-limit : (t : Float) → T (zeroOrMore t) → T (belowLimit t) → Wit
 unfolding ofInt
 within-limit t a b = within t (whole limit) limit (lit< tt) (refl, refl) a b
 
-pub within-longest : (h : Float) → T (zeroOrMore h) → T (productBelow h) → Within (product h) longest
+pub within-limit-nanoseconds : (h : Float) → T (zeroOrMore h) → T (productBelow h) → Within (product h) limitNanoseconds
 unfolding ofInt
-within-longest h a b = within (product h) (whole longest) longest (lit< tt) (refl, refl) (zero-or-more-times h (whole hour) tt a) b
+within-limit-nanoseconds h a b = within (product h) (whole limitNanoseconds) limitNanoseconds (lit< tt) (refl, refl) (zero-or-more-times h (whole hour) tt a) b
 
 -- ---- the digits of a value, in units of 2 ^ -1074
 value-cross : (x : Float) (s : Bool) (a c : ℕ) → HasValue x s a c → num x * c ≡ a * den x
@@ -62,18 +62,18 @@ place-lt x q k j p h =
     top j = sym (pow-add 2 52 (1022 + j)) ∙ ap (λ (n : ℕ). 2 ^ n) (exps j) ∙ pow-add 2 j 1074
 
 -- p holds the digits of x, which is below 2 ^ j
-pub record Digits (x : Float) (j : ℕ) (p : Parts) : Type 0 where
+pub record Digits (x : Float) (j : ℕ) (p : Unpacked) : Type 0 where
   pub parts : HasParts x (p .digits) (p .place)
   pub low : p .place < 1022 + j
 
-digits-of : (x : Float) (n j b : ℕ) (p : Parts) → n ≤ 2 ^ j → Within x n → T (fits binary64 x) → b ≡ toBits binary64 x → p ≡ partsOf b → Digits x j p
+digits-of : (x : Float) (n j b : ℕ) (p : Unpacked) → n ≤ 2 ^ j → Within x n → T (fits binary64 x) → b ≡ toBits binary64 x → p ≡ partsOf b → Digits x j p
 digits-of x n j b p h w f e q =
-    let parts = subst (λ (z : Parts). HasParts x (z .digits) (z .place)) (sym (q ∙ ap partsOf e)) (parts-value x f (w .is-finite)) in
+    let parts = subst (λ (z : Unpacked). HasParts x (z .digits) (z .place)) (sym (q ∙ ap partsOf e)) (parts-value x f (w .is-finite)) in
     record { parts = parts; low = place-lt x (p .digits) (p .place) j parts (lt-of-lt-of-le (w .below) (mul-le-mul-right (den x) h)) }
 
 -- ---- the digits of what passes both questions
-pub seconds-digits : (t : Float) (b : ℕ) (p : Parts) → T (fits binary64 t) → not (zeroOrMore t) ≡ false → not (belowLimit t) ≡ false → b ≡ toBits binary64 t → p ≡ partsOf b → Digits t 34 p
+pub seconds-digits : (t : Float) (b : ℕ) (p : Unpacked) → T (fits binary64 t) → not (zeroOrMore t) ≡ false → not (belowLimit t) ≡ false → b ≡ toBits binary64 t → p ≡ partsOf b → Digits t 34 p
 seconds-digits t b p f x y e q = digits-of t limit 34 b p (lit≤ tt) (within-limit t (yes (zeroOrMore t) x) (yes (belowLimit t) y)) f e q
 
-pub product-digits : (h : Float) (b : ℕ) (p : Parts) → not (zeroOrMore h) ≡ false → not (productBelow h) ≡ false → b ≡ toBits binary64 (product h) → p ≡ partsOf b → Digits (product h) 64 p
-product-digits h b p x y e q = digits-of (product h) longest 64 b p (lit≤ tt) (within-longest h (yes (zeroOrMore h) x) (yes (productBelow h) y)) (mul-fits binary64 h (whole hour)) e q
+pub product-digits : (h : Float) (b : ℕ) (p : Unpacked) → not (zeroOrMore h) ≡ false → not (productBelow h) ≡ false → b ≡ toBits binary64 (product h) → p ≡ partsOf b → Digits (product h) 64 p
+product-digits h b p x y e q = digits-of (product h) limitNanoseconds 64 b p (lit≤ tt) (within-limit-nanoseconds h (yes (zeroOrMore h) x) (yes (productBelow h) y)) (mul-fits binary64 h (whole hour)) e q

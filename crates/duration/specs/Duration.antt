@@ -1,6 +1,6 @@
 -- Durations, which are whole nanoseconds, from seconds and from hours, and back to seconds. Definitions only.
 -- Floats are the values of `lib.Ieee`. A finite one is the fraction `num` / `den` in size. `closest a b` is a / b to the nearest whole number,
--- a tie to the even one. A time that has no duration is answered by a variant of `Span`, for which `numberOf` gives document 01's number.
+-- a tie to the even one. A time that has no duration is answered by a variant of `Converted`, for which `numberOf` gives document 01's number.
 use Prim.Native.Nat.{ℕ, _+_, _*_, _/_, _%_, _^_}
 use mathlib.Core.Bool.{Bool, true, false, cond}
 use lib.Dec.{eqb}
@@ -8,8 +8,8 @@ use lib.Ieee.{Float, le, lt}
 use lib.Ieee.Nearest.{closest}
 use lib.Ieee.Positive.{num, den}
 use Rattle.float.specs.Operators.{_⊕_, _⊗_, _⊘_, whole}
-use Rattle.duration.specs.declared.Span.{Span}
-use Rattle.duration.specs.declared.Span.the-variants.{Nanoseconds, Negative, TooLong}
+use Rattle.duration.specs.declared.Converted.{Converted}
+use Rattle.duration.specs.declared.Converted.the-variants.{Nanoseconds, Negative, TooLong}
 
 -- ---- the numbers
 
@@ -26,8 +26,8 @@ abbrev pub limit : ℕ
 limit = 2 ^ 34
 
 -- the same limit in nanoseconds: 2 ^ 34 times 10 ^ 9, which is a value of binary64, as all of these are
-abbrev pub longest : ℕ
-longest = limit * second
+abbrev pub limitNanoseconds : ℕ
+limitNanoseconds = limit * second
 
 -- ---- the questions
 
@@ -36,19 +36,19 @@ abbrev pub zeroOrMore : Float → Bool
 zeroOrMore x = le (whole 0) x
 
 -- 'Is it zero or more? 14. Is it below 2^34 seconds? 15': the first no is the answer
-unfoldable pub asked : Bool → Bool → ℕ → Span
+unfoldable pub asked : Bool → Bool → ℕ → Converted
 asked false below n = Negative
 asked true false n = TooLong
 asked true true n = Nanoseconds n
 
 -- the number of an answer; 0 is done
-abbrev pub numberOf : Span → ℕ
+abbrev pub numberOf : Converted → ℕ
 numberOf (Nanoseconds n) = 0
 numberOf Negative = 14
 numberOf TooLong = 15
 
 -- the nanoseconds of an answer, '0 when refused'
-abbrev pub nanosecondsOf : Span → ℕ
+abbrev pub nanosecondsOf : Converted → ℕ
 nanosecondsOf (Nanoseconds n) = n
 nanosecondsOf Negative = 0
 nanosecondsOf TooLong = 0
@@ -64,7 +64,7 @@ abbrev pub exactNanoseconds : Float → ℕ
 exactNanoseconds t = closest (num t * second) (den t)
 
 -- 'Seconds to nanoseconds'
-unfoldable pub fromSeconds : Float → Span
+unfoldable pub fromSeconds : Float → Converted
 unfolding asked
 fromSeconds t = asked (zeroOrMore t) (belowLimit t) (exactNanoseconds t)
 
@@ -74,7 +74,7 @@ product h = h ⊗ whole hour
 
 -- 'the float product of hours and 3.6e12 below 2^34 times 10^9'
 abbrev pub productBelow : Float → Bool
-productBelow h = lt (product h) (whole longest)
+productBelow h = lt (product h) (whole limitNanoseconds)
 
 -- a / b to the nearest whole number, halves away from zero: a / b + 1 / 2, cut
 abbrev pub halfAway : ℕ → ℕ → ℕ
@@ -85,7 +85,7 @@ abbrev pub productNanoseconds : Float → ℕ
 productNanoseconds h = halfAway (num (product h)) (den (product h))
 
 -- 'Hours': zero or more is asked of the hours, the limit of the product
-unfoldable pub fromHours : Float → Span
+unfoldable pub fromHours : Float → Converted
 unfolding asked
 fromHours h = asked (zeroOrMore h) (productBelow h) (productNanoseconds h)
 

@@ -3,7 +3,7 @@ use mathlib.Core.Path.{_≡_, refl}
 use mathlib.Core.Bool.{true, false}
 use lib.IntN.{pos, negsuc}
 use lib.Ieee.{nan, inf, fin, ofInt, add, mul, div, le, lt}
-use Rattle.duration.specs.declared.Span.the-variants.{Nanoseconds, Negative, TooLong}
+use Rattle.duration.specs.declared.Converted.the-variants.{Nanoseconds, Negative, TooLong}
 use Rattle.duration.specs.Duration.{fromSeconds, fromHours, toSeconds, numberOf}
 
 pub one-second : fromSeconds (fin false 1 (pos 0)) ≡ Nanoseconds 1000000000

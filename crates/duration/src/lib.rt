@@ -17,13 +17,13 @@ const HOUR: f64 = 3.6e12;
 const LIMIT: f64 = 17179869184.0;
 
 // The nanoseconds of LIMIT.
-const LONGEST: f64 = LIMIT * (SECOND as f64);
+const LIMIT_NANOSECONDS: f64 = LIMIT * (SECOND as f64);
 
 // Digits at place 0 count units of 2^-UNITS.
 const UNITS: u64 = 1074;
 
 // A time as a duration, or why it is none.
-pub enum Span {
+pub enum Converted {
     Nanoseconds(u64),
     // Not zero or more, as a NaN is not.
     Negative,
@@ -31,15 +31,15 @@ pub enum Span {
     TooLong,
 }
 
-impl Span {
+impl Converted {
     // Document 01's number of the answer, 0 where there is a duration.
     pub fn number(self) -> u8
         ensures { λ r. ⌜ r ≡ spec.numberOf self ⌝ }
     {
         match self {
-            Span::Nanoseconds(_) => 0,
-            Span::Negative => 14,
-            Span::TooLong => 15,
+            Converted::Nanoseconds(_) => 0,
+            Converted::Negative => 14,
+            Converted::TooLong => 15,
         }
     }
 
@@ -48,44 +48,44 @@ impl Span {
         ensures { λ r. ⌜ r ≡ spec.nanosecondsOf self ⌝ }
     {
         match self {
-            Span::Nanoseconds(n) => n,
-            Span::Negative => 0,
-            Span::TooLong => 0,
+            Converted::Nanoseconds(n) => n,
+            Converted::Negative => 0,
+            Converted::TooLong => 0,
         }
     }
 }
 
 // The duration of t seconds: the exact value times 10^9, nearest, ties to even.
-pub fn from_seconds(t: f64) -> Span
+pub fn from_seconds(t: f64) -> Converted
     ensures { λ r. ⌜ r ≡ spec.fromSeconds t ⌝ }
 {
     if !(0.0 <= t) {
-        return Span::Negative;
+        return Converted::Negative;
     }
     if !(t < LIMIT) {
-        return Span::TooLong;
+        return Converted::TooLong;
     }
-    let p = float::bits::parts_of(float::bits::to_bits(t));
+    let p = float::bits::unpack(float::bits::to_bits(t));
     let digits = p.digits;
     let place = p.place;
-    Span::Nanoseconds(nearest_even(digits, place))
+    Converted::Nanoseconds(nearest_even(digits, place))
 }
 
 // The duration of h hours: the float product with 3.6e12, nearest, halves away from zero.
-pub fn from_hours(h: f64) -> Span
+pub fn from_hours(h: f64) -> Converted
     ensures { λ r. ⌜ r ≡ spec.fromHours h ⌝ }
 {
     if !(0.0 <= h) {
-        return Span::Negative;
+        return Converted::Negative;
     }
     let product = h * HOUR;
-    if !(product < LONGEST) {
-        return Span::TooLong;
+    if !(product < LIMIT_NANOSECONDS) {
+        return Converted::TooLong;
     }
-    let p = float::bits::parts_of(float::bits::to_bits(product));
+    let p = float::bits::unpack(float::bits::to_bits(product));
     let digits = p.digits;
     let place = p.place;
-    Span::Nanoseconds(half_away(digits, place))
+    Converted::Nanoseconds(half_away(digits, place))
 }
 
 // A duration's seconds: whole seconds plus nanoseconds / 1e9.

@@ -13,7 +13,7 @@ use lib.Ieee.Exact.{HasValue, odd-sign, round-exact}
 use lib.Ieee.Fits.{up-pos, down-pos, rem-fits}
 use lib.Ieee.Scale.{finite}
 use Rattle.float.specs.Bits.{magnitude, signBit, digits, place, partsOf}
-use Rattle.float.specs.declared.bits.Parts.{Parts}
+use Rattle.float.specs.declared.bits.Unpacked.{Unpacked}
 use Rattle.float.proofs.Pattern.{Placed}
 use Rattle.float.proofs.Sign.{magnitude-of}
 use Rattle.float.proofs.Value.{same-value, field-lt, taken, parts-value}
@@ -176,7 +176,7 @@ rem-of-smaller x (fin s n d) f g _ t h =
     positive m n h = omega arith
 
 -- the remainder of two magnitudes by their parts, and a magnitude with a sign
-abbrev pub rem-parts : Parts → Parts → Float
+abbrev pub rem-parts : Unpacked → Unpacked → Float
 rem-parts a b = odd 53 false (a .digits * 2 ^ (a .place - b .place) % b .digits) (b .place) 1074
 
 abbrev pub with-sign : Bool → Float → Float

@@ -4,7 +4,7 @@ use Prim.Native.Nat.{ℕ, _+_, _-_, _/_, _%_, _^_}
 use mathlib.Core.Bool.{Bool, false, cond}
 use lib.Dec.{eqb}
 use lib.Ieee.{Float, nan, inf, fin}
-use Rattle.float.specs.declared.bits.Parts.{Parts}
+use Rattle.float.specs.declared.bits.Unpacked.{Unpacked}
 
 -- the sign bit; a NaN has none
 abbrev pub signBit : Float → Bool
@@ -26,5 +26,5 @@ digits b = cond (eqb (b % 2 ^ 63 / 2 ^ 52) 0) (b % 2 ^ 52) (b % 2 ^ 52 + 2 ^ 52)
 abbrev pub place : ℕ → ℕ
 place b = b % 2 ^ 63 / 2 ^ 52 - 1
 
-abbrev pub partsOf : ℕ → Parts
+abbrev pub partsOf : ℕ → Unpacked
 partsOf b = record { digits = digits b; place = place b }

@@ -16,7 +16,7 @@ pub const NAN: u64 = 0x7ff8_0000_0000_0000;
 pub const FIELD: u64 = 0x10_0000_0000_0000;
 
 // A magnitude as a whole number of units of 2^-1074: digits * 2^place.
-pub struct Parts {
+pub struct Unpacked {
     pub digits: u64,
     pub place: u64,
 }
@@ -62,18 +62,18 @@ pub fn magnitude(x: f64) -> f64
 }
 
 // The significand, its leading digit included, and the place of a pattern's magnitude.
-pub fn parts_of(bits: u64) -> Parts
+pub fn unpack(bits: u64) -> Unpacked
     ensures { λ r. ⌜ r ≡ spec.partsOf bits ⌝ }
 {
     let field = bits % SIGN / FIELD;
     let low = bits % FIELD;
     if field == 0 {
-        return Parts {
+        return Unpacked {
             digits: low,
             place: 0,
         };
     }
-    Parts {
+    Unpacked {
         digits: low + FIELD,
         place: field - 1,
     }

@@ -6,10 +6,10 @@ ghost use lib.Ieee as Ieee;
 ghost use lib.Ieee.{binary64};
 use crate::bits::FIELD;
 use crate::bits::INFINITY;
-use crate::bits::Parts;
 use crate::bits::SIGN;
-use crate::bits::parts_of;
+use crate::bits::Unpacked;
 use crate::bits::sign_bit;
+use crate::bits::unpack;
 use crate::modular::shifted_rem;
 
 // digits * 2^place units of 2^-1074 as a float: the digits are shifted up until one leads, or the place is used up.
@@ -28,7 +28,7 @@ fn of_parts(digits: u64, place: u64) -> f64
 }
 
 // The remainder of two magnitudes by their parts: both are whole numbers of 2^place units, with the place of b.
-fn rem_of_parts(a: Parts, b: Parts) -> f64
+fn rem_of_unpacked(a: Unpacked, b: Unpacked) -> f64
     requires { ⌜ (a .digits < 2 ^ 53) × (a .place < 2046) × (0 < b .digits) × (b .digits < 2 ^ 53) × (b .place ≤ a .place) ⌝ }
     ensures { λ r. ⌜ r ≡ Ieee.odd 53 false (a .digits * 2 ^ (a .place - b .place) % b .digits) (b .place) 1074 ⌝ }
 {
@@ -57,6 +57,6 @@ pub fn rem(x: f64, y: f64) -> f64
     if p % SIGN < q % SIGN {
         return x;
     }
-    let r = rem_of_parts(parts_of(p), parts_of(q));
+    let r = rem_of_unpacked(unpack(p), unpack(q));
     if sign_bit(x) { -r } else { r }
 }

@@ -6,7 +6,7 @@ ghost use lib.Dec.{leb};
 ghost use Rattle.float.specs.Root as spec;
 use crate::bits::FIELD;
 use crate::bits::INFINITY;
-use crate::bits::parts_of;
+use crate::bits::unpack;
 
 // The whole part of the root of m * 2^54, digit by digit.
 fn root_by_digits(m: u64) -> u64
@@ -134,6 +134,6 @@ pub fn sqrt(x: f64) -> f64
     if bits == INFINITY {
         return x;
     }
-    let p = parts_of(bits);
+    let p = unpack(bits);
     root_of(p.digits, p.place)
 }

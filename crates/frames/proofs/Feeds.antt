@@ -129,7 +129,7 @@ wrote-rest {mid} {ys} {out} {a} {n} {next} h w =
       size = w .size;
       past = omega (arith, w .past);
       within = omega (arith, w .within, l, h);
-      long = length-append (take a mid) out ∙ omega (arith, length-take-le a mid h, w .long, l, h);
+      length-is = length-append (take a mid) out ∙ omega (arith, length-take-le a mid h, w .length-is, l, h);
       text = rw (w .text) (over-rest mid ys a h);
     }
 
@@ -152,7 +152,7 @@ module _ {s : Stream} {xs page mid out : List ℕ} {r t : Fed} (g : GoingOn s xs
   used-within = omega (arith, g .within, f .within, l)
 
   pub next-within : r .next + t .next ≤ length page
-  next-within = omega (arith, g .wrote .within, g .wrote .long, f .wrote .within, k)
+  next-within = omega (arith, g .wrote .within, g .wrote .length-is, f .wrote .within, k)
 
   upto-both : take (r .used + t .used) xs ≡ take (r .used) xs ++ take (t .used) (take (length xs - r .used) (drop (r .used) xs))
   upto-both = rw (rest-of xs (r .used)) (take-add (r .used) (t .used) xs)
@@ -164,7 +164,7 @@ module _ {s : Stream} {xs page mid out : List ℕ} {r t : Fed} (g : GoingOn s xs
         within = used-within;
         stops = λ h.
             let z = f .stops (omega (arith, h, l, g .within)) in
-            (sym (rw (rest-of xs (r .used)) (getD-drop (r .used) xs (t .used) 0)) ∙ z .0, omega (arith, z .1, k, g .wrote .long, g .wrote .within));
+            (sym (rw (rest-of xs (r .used)) (getD-drop (r .used) xs (t .used) 0)) ∙ z .0, omega (arith, z .1, k, g .wrote .length-is, g .wrote .within));
         state-is = f .state-is ∙ rw (g .state-is, upto-both) (sym (state-append (view s) (take (r .used) xs) _));
         text = g .text ++ f .text;
         text-of =
@@ -172,5 +172,5 @@ module _ {s : Stream} {xs page mid out : List ℕ} {r t : Fed} (g : GoingOn s xs
             (text-append (g .text-of) (f .text-of));
         wrote =
             rw (nothing-after mid (r .next), append-nil out)
-            (as-length (then (g .wrote) (wrote-rest (omega (arith, g .wrote .within, g .wrote .long)) (subst (λ (z : List ℕ). Wrote z 0 (length (f .text)) (f .text) out (t .next)) (rest-of mid (r .next)) (f .wrote)))) refl);
+            (as-length (then (g .wrote) (wrote-rest (omega (arith, g .wrote .within, g .wrote .length-is)) (subst (λ (z : List ℕ). Wrote z 0 (length (f .text)) (f .text) out (t .next)) (rest-of mid (r .next)) (f .wrote)))) refl);
       }

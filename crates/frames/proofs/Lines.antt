@@ -10,7 +10,7 @@ use lib.ListN.{length}
 use Rattle.hex.specs.Hex.{allDigits, hexAt}
 use Rattle.frames.specs.declared.frame.Frame.{Frame}
 use Rattle.frames.specs.declared.frame.Frame.the-variants.{NotAFrame}
-use Rattle.frames.specs.Frame.{framed, frameOf, longest}
+use Rattle.frames.specs.Frame.{framed, frameOf, mostFrameDigits}
 
 same : (b : Bool) (f : Frame) → cond b f f ≡ f
 same true f = refl
@@ -22,9 +22,9 @@ unfolding frameOf
 no-digits s e = rw e
 
 -- digits of a known kind
-pub known : (s : List ℕ) (v k : ℕ) (f : Frame) → allDigits s ≡ true → v ≡ hexAt s 0 2 → v ≡ k → f ≡ framed k s → f ≡ frameOf s
+pub known-kind-framed : (s : List ℕ) (v k : ℕ) (f : Frame) → allDigits s ≡ true → v ≡ hexAt s 0 2 → v ≡ k → f ≡ framed k s → f ≡ frameOf s
 unfolding frameOf
-known s v k f d e h g = rw (d, ← e, h, g)
+known-kind-framed s v k f d e h g = rw (d, ← e, h, g)
 
 -- digits of no known kind
 pub unknown : (s : List ℕ) (v : ℕ) → allDigits s ≡ true → v ≡ hexAt s 0 2 → (v ≡ 0 → ⊥) → (v ≡ 1 → ⊥) → (v ≡ 2 → ⊥) → (v ≡ 3 → ⊥) → (v ≡ 4 → ⊥)
@@ -41,8 +41,8 @@ short s h =
     simp (n 18 (omega arith), n 86 (omega arith), n 6 (omega arith), n 82 (omega arith), n 98 (omega arith), n 2 (omega arith), same)
 
 -- more digits than the longest frame has are no frame
-pub long : (s : List ℕ) → longest < length s → frameOf s ≡ NotAFrame
+pub long-is-no-frame : (s : List ℕ) → mostFrameDigits < length s → frameOf s ≡ NotAFrame
 unfolding framed frameOf
-long s h =
+long-is-no-frame s h =
     let n : (k : ℕ) → k < 99 → eqb (length s) k ≡ false = λ k g. ne-eqb (length s) k (λ e. omega arith) in
     simp (n 18 (omega arith), n 86 (omega arith), n 6 (omega arith), n 82 (omega arith), n 98 (omega arith), n 2 (omega arith), same)

@@ -18,7 +18,7 @@ use Rattle.frames.specs.Whole.{newline, onto, linesOf, Asked, asked, ask
 use Rattle.frames.specs.Line.{kept}
 use Rattle.frames.specs.Stream.{Model, fresh, added, stepped, asks, fedState, fedAsks, lastAsks, endAsks, Ran, joined}
 use Rattle.frames.specs.Stream.Ran.{ends, feeds}
-use Rattle.frames.proofs.Lines.{long}
+use Rattle.frames.proofs.Lines.{long-is-no-frame}
 use Rattle.frames.proofs.Texts.{text-append, text-by}
 
 -- ---- one piece after another
@@ -59,7 +59,7 @@ pub frame-cut : (q : List ℕ) → frameOf (take kept q) ≡ frameOf q
 frame-cut q =
     split (length q) kept
     (λ h. ap frameOf (take-all kept q h))
-    (λ h. long (take kept q) (rw (length-take-le kept q (omega arith)) (omega arith)) ∙ sym (long q (omega arith)))
+    (λ h. long-is-no-frame (take kept q) (rw (length-take-le kept q (omega arith)) (omega arith)) ∙ sym (long-is-no-frame q (omega arith)))
 
 pub added-cut : (q : List ℕ) (x : ℕ) → added (take kept q) x ≡ take kept (q ++ (x ∷ []))
 unfolding added

@@ -35,7 +35,7 @@ session-parts s q e = rw e
 pub under-own : (q : Setting) (ts : Targets) (ids : List ℕ) → length (ts .entries) ≡ mostTargets → ts .count ≡ q .count
     → ids ≡ identities (ts .entries) (atMost (ts .count)) → Under q ids (ts .entries)
 under-own q ts ids l k e =
-    record { long = l; same = rw (e, ← k) (identities-first (ts .entries) (atMost (ts .count)) l (at-most-le (ts .count))) }
+    record { length-is = l; same = rw (e, ← k) (identities-first (ts .entries) (atMost (ts .count)) l (at-most-le (ts .count))) }
 
 pub ids-long : (ts : Targets) (ids : List ℕ) → length (ts .entries) ≡ mostTargets → ids ≡ identities (ts .entries) (atMost (ts .count)) → length ids ≡ mostTargets
 ids-long ts ids l e = ap length e ∙ length-identities (ts .entries) (atMost (ts .count)) l (at-most-le (ts .count))

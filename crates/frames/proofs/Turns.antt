@@ -18,7 +18,7 @@ use Rattle.frames.specs.declared.frame.Frame.{Frame}
 use Rattle.frames.specs.declared.reply.Reply.{Reply}
 use Rattle.frames.specs.declared.session.Session.{Session}
 use Rattle.frames.specs.declared.session.Stepped.{Stepped}
-use Rattle.frames.specs.declared.stream.Answered.{Answered}
+use Rattle.frames.specs.declared.stream.InParts.{InParts}
 use Rattle.frames.specs.declared.stream.Stream.{Stream}
 use Rattle.frames.specs.Frame.{frameOf}
 use Rattle.frames.specs.Quick.{sessionOf}
@@ -26,7 +26,7 @@ use Rattle.frames.specs.Reply.{replyDigits}
 use Rattle.frames.specs.Session.{next, plainOf, Stepping}
 use Rattle.frames.specs.Whole.{newline, Asked, asked, Text}
 use Rattle.frames.specs.Line.{kept, least, part, Passes}
-use Rattle.frames.specs.Stream.{room, Model, stepped, asks, fedState, fedAsks, lastAsks, endAsks, PutLine, Answering, Finishing}
+use Rattle.frames.specs.Stream.{room, Model, stepped, asks, fedState, fedAsks, lastAsks, endAsks, PutReplyLine, Answering, Finishing}
 use Rattle.frames.proofs.Pieces.{split, state-append, asks-append, added-cut, frame-cut}
 use Rattle.frames.proofs.Sizes.{reply-short}
 use Rattle.frames.proofs.Texts.{text-append, text-by, text-none, text-one}
@@ -123,14 +123,14 @@ pub put-room : {page out : List ℕ} {at n : ℕ} (y : Reply) → Put page at (r
 put-room y w h = put-wrote w refl (omega (arith, reply-short y))
 
 pub put-below : {page out : List ℕ} {at n : ℕ} (y : Reply) → Put page at (replyDigits y) out n → at + room ≤ length page → n < length out
-put-below y w h = let v = put-room y w h in omega (arith, v .past, v .long, reply-short y)
+put-below y w h = let v = put-room y w h in omega (arith, v .past, v .length-is, reply-short y)
 
-pub put-line : {page mid : List ℕ} {at n : ℕ} (y : Reply) → Put page at (replyDigits y) mid n → at + room ≤ length page
-    → PutLine y page at (set mid n newline) (n + 1)
-put-line {page} {mid} {at} {n} y w h = as-length (then (put-room y w h) (wrote-byte mid n newline (put-below y w h))) refl
+pub put-reply-line : {page mid : List ℕ} {at n : ℕ} (y : Reply) → Put page at (replyDigits y) mid n → at + room ≤ length page
+    → PutReplyLine y page at (set mid n newline) (n + 1)
+put-reply-line {page} {mid} {at} {n} y w h = as-length (then (put-room y w h) (wrote-byte mid n newline (put-below y w h))) refl
 
 pub answering : {s : Session} {f : Frame} {page out : List ℕ} {at n : ℕ} {r : Stepped} {q : Setting} → Stepping s f r
-    → q ≡ settingOf (r .session .board) → PutLine (r .reply) page at out n
+    → q ≡ settingOf (r .session .board) → PutReplyLine (r .reply) page at out n
     → Answering s f page at out (record { started = r .session .started; setting = q; targets = r .session .board .targets; next = n })
 unfolding sessionOf boardOf settingOf
 answering {s} {f} {page} {out} {at} {n} {r} {q} st e w =
@@ -164,16 +164,16 @@ module _ {m : Model} {xs page₀ page line : List ℕ} {s : Session} {at i : ℕ
             (answers-then (v .answers) k w);
       }
 
-  pub passed-step : {out : List ℕ} {next′ : ℕ} {r : Stepped} → Stepping s f r → PutLine (r .reply) page at out next′
+  pub passed-step : {out : List ℕ} {next′ : ℕ} {r : Stepped} → Stepping s f r → PutReplyLine (r .reply) page at out next′
       → Passed m xs page₀ out (r .session) [] next′ (i + 1)
   passed-step {r = r} st w = line-passed (r .session) (st .session-is) (text-one (asked (plainOf s) f) (r .reply) (st .replied)) w
 
-  pub passed-whole : {out : List ℕ} {r : Answered} → Answering s f page at out r
+  pub passed-whole : {out : List ℕ} {r : InParts} → Answering s f page at out r
       → Passed m xs page₀ out (sessionOf (r .started) (r .setting) (r .targets .entries)) [] (r .next) (i + 1)
   passed-whole a = line-passed _ (a .session-is) (a .text-of) (a .wrote)
 
 -- the same of an equal session, and from an equal start
-pub answering-by : {s t : Session} {f : Frame} {page out : List ℕ} {at : ℕ} {r : Answered} → s ≡ t → Answering s f page at out r → Answering t f page at out r
+pub answering-by : {s t : Session} {f : Frame} {page out : List ℕ} {at : ℕ} {r : InParts} → s ≡ t → Answering s f page at out r → Answering t f page at out r
 answering-by {f = f} {page} {out} {at} {r} e a = subst (λ (x : Session). Answering x f page at out r) e a
 
 pub passed-from : {s t : Session} {p xs page₀ page line : List ℕ} {session : Session} {at i : ℕ} → s ≡ t
@@ -196,7 +196,7 @@ finished-none {s} {page} {k} l e z =
       finished = λ g. record { text = []; text-of = rw p text-none; wrote = wrote-nothing page 0 (omega arith) };
     }
 
-pub finished-line : {s : Stream} {page out : List ℕ} {k : ℕ} {r : Answered} → length (s .line) ≡ kept → k ≡ least (s .n) → (k ≡ 0 → ⊥)
+pub finished-line : {s : Stream} {page out : List ℕ} {k : ℕ} {r : InParts} → length (s .line) ≡ kept → k ≡ least (s .n) → (k ≡ 0 → ⊥)
     → room ≤ length page → {f : Frame} → f ≡ frameOf (take k (s .line)) → Answering (s .session) f page 0 out r → Finishing s page out (r .next)
 unfolding endAsks
 finished-line {s} {page} {out} {k} {r} l e z h {f} g w =

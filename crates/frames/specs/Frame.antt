@@ -13,20 +13,20 @@ use Rattle.frames.specs.declared.frame.Frame.{Frame}
 use Rattle.frames.specs.declared.frame.Frame.the-variants.{Fresh, Told, Mean, Pick, Total, NotAFrame}
 
 -- "at most 98 digits"
-abbrev pub longest : ℕ
-longest = 98
+abbrev pub mostFrameDigits : ℕ
+mostFrameDigits = 98
 
 -- "Floats are 16 digits of their bits, high digit first"; every NaN pattern is a NaN
 abbrev pub floatAt : List ℕ → ℕ → Float
 floatAt s at = ofBits binary64 (hexAt s at 16)
 
 -- a position: three floats, 48 digits
-abbrev pub positionAt : List ℕ → ℕ → Coordinates
-positionAt s at = record { x = floatAt s at; y = floatAt s (at + 16); z = floatAt s (at + 32) }
+abbrev pub coordinatesAt : List ℕ → ℕ → Coordinates
+coordinatesAt s at = record { x = floatAt s at; y = floatAt s (at + 16); z = floatAt s (at + 32) }
 
 -- "position, bearing, speed": 80 digits
 abbrev pub fixAt : List ℕ → ℕ → Fix
-fixAt s at = record { position = positionAt s at; bearing = floatAt s (at + 48); speed = floatAt s (at + 64) }
+fixAt s at = record { position = coordinatesAt s at; bearing = floatAt s (at + 48); speed = floatAt s (at + 64) }
 
 -- "identity (4)", past the kind
 abbrev pub identityIn : List ℕ → ℕ
@@ -44,7 +44,7 @@ framed kind s =
     (cond (eqb kind 1) (sized 86 s (Told (Report (identityIn s) (fixAt s 6))))
     (cond (eqb kind 2) (sized 6 s (Told (Withdraw (identityIn s))))
     (cond (eqb kind 3) (sized 82 s (Told (OwnShip (fixAt s 2))))
-    (cond (eqb kind 4) (sized longest s (Told (Track (positionAt s 2) (positionAt s 50))))
+    (cond (eqb kind 4) (sized mostFrameDigits s (Told (Track (coordinatesAt s 2) (coordinatesAt s 50))))
     (cond (eqb kind 5) (sized 6 s (Told (Solve (identityIn s))))
     (cond (eqb kind 6) (sized 2 s Mean)
     (cond (eqb kind 7) (sized 2 s Pick)

@@ -7,13 +7,13 @@ use mathlib.Core.Path.{_≡_}
 use lib.Dec.{ltb}
 use lib.ListN.{length, take, drop, getD}
 use Rattle.hex.specs.Hex.{allDigits}
-use Rattle.frames.specs.declared.line.Span.{Span}
-use Rattle.frames.specs.Frame.{longest}
+use Rattle.frames.specs.declared.line.LineSpan.{LineSpan}
+use Rattle.frames.specs.Frame.{mostFrameDigits}
 use Rattle.frames.specs.Whole.{newline}
 
 -- how many bytes of a line are kept: one more than the longest frame has, so that a longer line is no frame
 abbrev pub kept : ℕ
-kept = longest + 1
+kept = mostFrameDigits + 1
 
 -- the lesser of n and what is kept
 abbrev pub least : ℕ → ℕ
@@ -43,11 +43,11 @@ abbrev pub part : List ℕ → ℕ → ℕ → List ℕ
 part s a b = take (b - a) (drop a s)
 
 -- the line from `at` on, and whether it is digits alone
-pub record Spans (s : List ℕ) (at : ℕ) (r : Span) : Type 0 where
+pub record SpansLine (s : List ℕ) (at : ℕ) (r : LineSpan) : Type 0 where
   pub ends-at : EndsAt s at (r .end)
   pub digits-are : r .digits ≡ allDigits (part s at (r .end))
 
 -- what is kept of a line of which n bytes were, once more have come
 pub record Joined (line : List ℕ) (n : ℕ) (more r : List ℕ) : Type 0 where
-  pub long : length r ≡ kept
+  pub length-is : length r ≡ kept
   pub text : take (least (n + length more)) r ≡ take kept (take n line ++ more)

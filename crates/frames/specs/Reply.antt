@@ -6,8 +6,7 @@ use Rattle.board.specs.declared.line.Line.{Line}
 use Rattle.hex.specs.Hex.{digits}
 use Rattle.jord.specs.declared.vec3.Vec3.{Vec3}
 use Rattle.spherical.specs.Outcome.{numberOf, nanosecondsOf, countOf}
-use Rattle.spherical.specs.declared.Side.{Side}
-use Rattle.spherical.specs.declared.Side.the-variants.{Left, Right, Collinear}
+use Rattle.spherical.specs.Side.{sideNumber}
 use Rattle.spherical.specs.declared.outcome.Outcome.{Outcome}
 use Rattle.frames.specs.declared.reply.Reply.{Reply}
 use Rattle.frames.specs.declared.reply.Reply.the-variants.{Done, Refused, Solved, Mean, Pick, Total, NotAFrame}
@@ -19,12 +18,6 @@ two kind number = digits 2 kind ++ digits 2 number
 -- "Floats are 16 digits of their bits, high digit first"; "NaN is 7ff8000000000000"
 abbrev pub floatDigits : Float → List ℕ
 floatDigits x = digits 16 (toBits binary64 x)
-
--- "side 00 Left 01 Right 02 Collinear"
-abbrev pub sideNumber : Side → ℕ
-sideNumber Left = 0
-sideNumber Right = 1
-sideNumber Collinear = 2
 
 -- "number, 16 digits nanoseconds, 0 when refused, 2 digits count": 20 digits
 unfoldable pub outcomeDigits : Outcome → List ℕ
@@ -51,5 +44,5 @@ replyDigits (Total t) = two 8 0 ++ digits 8 t
 replyDigits NotAFrame = two 255 1
 
 -- the digits of the longest reply, a line
-abbrev pub longestReply : ℕ
-longestReply = 114
+abbrev pub mostReplyDigits : ℕ
+mostReplyDigits = 114

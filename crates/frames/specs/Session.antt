@@ -3,9 +3,9 @@ use Prim.Native.Nat.{ℕ}
 use mathlib.Core.Bool.{cond}
 use mathlib.Core.Option.{Option, some, none}
 use mathlib.Core.Path.{_≡_}
-use Rattle.board.specs.Asking.{Picked, mean}
+use Rattle.board.specs.Asking.{Picked, mean, choiceNumber, choiceIdentity}
 use Rattle.board.specs.Board.{Plain, fresh, begins, answer, after}
-use Rattle.board.specs.Call.{numberOf}
+use Rattle.board.specs.Call.{answerNumber}
 use Rattle.board.specs.Code.{plain}
 use Rattle.board.specs.declared.asking.Choice.{Choice}
 use Rattle.board.specs.declared.asking.Choice.the-variants as choice
@@ -38,7 +38,7 @@ kindOf (Solve i) = 5
 unfoldable pub told : ℕ → Answer → Reply
 told kind answered.Done = reply.Done kind
 told kind (answered.Solved l) = reply.Solved l
-told kind (answered.Refused q) = reply.Refused kind (numberOf q)
+told kind (answered.Refused q) = reply.Refused kind (answerNumber (answered.Refused q))
 
 -- "06 three floats"
 unfoldable pub meanTold : Mean → Reply
@@ -48,8 +48,8 @@ meanTold Antipodal = reply.Refused 6 (means.numberOf Antipodal)
 
 -- "07 identity"
 unfoldable pub pickTold : Choice → Reply
-pickTold (choice.Target i) = reply.Pick i
-pickTold (choice.Refused q) = reply.Refused 7 (numberOf q)
+pickTold (choice.Target i) = reply.Pick (choiceIdentity (choice.Target i))
+pickTold (choice.Refused q) = reply.Refused 7 (choiceNumber (choice.Refused q))
 
 -- ---- the reply of a session
 

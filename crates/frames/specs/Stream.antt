@@ -12,19 +12,19 @@ use Rattle.hex.specs.Write.{Wrote}
 use Rattle.frames.specs.declared.frame.Frame.{Frame}
 use Rattle.frames.specs.declared.reply.Reply.{Reply}
 use Rattle.frames.specs.declared.session.Session.{Session}
-use Rattle.frames.specs.declared.stream.Answered.{Answered}
+use Rattle.frames.specs.declared.stream.InParts.{InParts}
 use Rattle.frames.specs.declared.stream.Fed.{Fed}
 use Rattle.frames.specs.declared.stream.Stream.{Stream}
 use Rattle.frames.specs.Frame.{frameOf}
 use Rattle.frames.specs.Line.{kept}
-use Rattle.frames.specs.Reply.{replyDigits, longestReply}
+use Rattle.frames.specs.Reply.{replyDigits, mostReplyDigits}
 use Rattle.frames.specs.Quick.{sessionOf}
 use Rattle.frames.specs.Session.{next, plainOf}
 use Rattle.frames.specs.Whole.{newline, Asked, asked, Text}
 
 -- the room that any reply fits, its newline with it
 abbrev pub room : ℕ
-room = longestReply + 1
+room = mostReplyDigits + 1
 
 -- what comes next waits: a line that does not end in the piece, or a reply that might not fit what is left of the page
 unfoldable pub waits : ℕ → ℕ → ℕ → Bool
@@ -88,11 +88,11 @@ abbrev pub view : Stream → Model
 view s = record { board = plainOf (s .session); part = take (s .n) (s .line) }
 
 -- a reply and its newline, written over a page
-abbrev pub PutLine : Reply → List ℕ → ℕ → List ℕ → ℕ → Type 0
-PutLine y page at out next = Wrote page at (length (replyDigits y ++ (newline ∷ []))) (replyDigits y ++ (newline ∷ [])) out next
+abbrev pub PutReplyLine : Reply → List ℕ → ℕ → List ℕ → ℕ → Type 0
+PutReplyLine y page at out next = Wrote page at (length (replyDigits y ++ (newline ∷ []))) (replyDigits y ++ (newline ∷ [])) out next
 
 -- the reply to a frame, with its newline, over a page, and the session in its parts
-pub record Answering (s : Session) (f : Frame) (page : List ℕ) (at : ℕ) (out : List ℕ) (r : Answered) : Type 0 where
+pub record Answering (s : Session) (f : Frame) (page : List ℕ) (at : ℕ) (out : List ℕ) (r : InParts) : Type 0 where
   pub session-is : plainOf (sessionOf (r .started) (r .setting) (r .targets .entries)) ≡ next (plainOf s) f
   pub counted : r .targets .count ≡ r .setting .count
   pub text : List ℕ

@@ -17,7 +17,7 @@ pub const REPORT: usize = 86;
 pub const OWN_SHIP: usize = 82;
 
 // Those of the longest, 04, a track.
-pub const LONGEST: usize = 98;
+pub const MOST_FRAME_DIGITS: usize = 98;
 
 // Those of a frame that names a target alone, 02 and 05.
 pub const NAMED: usize = 6;
@@ -55,9 +55,9 @@ fn identity(s: &[u8]) -> u16
 }
 
 // The position in the 48 digits of s from at on.
-fn position_at(s: &[u8], at: usize) -> Coordinates
+fn coordinates_at(s: &[u8], at: usize) -> Coordinates
     requires { ⌜ (at + 48 ≤ length (now s)) × (allDigits (now s) ≡ true) ⌝ }
-    ensures { λ r. ⌜ r ≡ spec.positionAt (now (s .entry)) at ⌝ }
+    ensures { λ r. ⌜ r ≡ spec.coordinatesAt (now (s .entry)) at ⌝ }
 {
     Coordinates {
         x: float_at(s, at),
@@ -71,7 +71,7 @@ fn fix_at(s: &[u8], at: usize) -> Fix
     requires { ⌜ (at + 80 ≤ length (now s)) × (allDigits (now s) ≡ true) ⌝ }
     ensures { λ r. ⌜ r ≡ spec.fixAt (now (s .entry)) at ⌝ }
 {
-    let position = position_at(s, at);
+    let position = coordinates_at(s, at);
     Fix {
         position,
         bearing: float_at(s, at + 48),
@@ -132,8 +132,8 @@ fn track_of(s: &[u8]) -> Frame
     requires { ⌜ allDigits (now s) ≡ true ⌝ }
     ensures { λ r. ⌜ r ≡ spec.framed 4 (now (s .entry)) ⌝ }
 {
-    if s.len() == LONGEST {
-        Frame::Told(Call::Track(position_at(s, 2), position_at(s, 50)))
+    if s.len() == MOST_FRAME_DIGITS {
+        Frame::Told(Call::Track(coordinates_at(s, 2), coordinates_at(s, 50)))
     } else {
         Frame::NotAFrame
     }
@@ -192,7 +192,7 @@ pub(crate) fn read_known(s: &[u8], digits: bool) -> Frame
 pub fn read(s: &[u8]) -> Frame
     ensures { λ r. ⌜ r ≡ spec.frameOf (now (s .entry)) ⌝ }
 {
-    if s.len() > LONGEST {
+    if s.len() > MOST_FRAME_DIGITS {
         return Frame::NotAFrame;
     }
     read_known(s, hex::all_digits(s))

@@ -5,13 +5,13 @@ ghost use lib.ListN.{length};
 ghost use Rattle.frames.specs.Line as spec;
 use crate::frame::ASKED;
 use crate::frame::FRESH;
-use crate::frame::LONGEST;
+use crate::frame::MOST_FRAME_DIGITS;
 use crate::frame::NAMED;
 use crate::frame::OWN_SHIP;
 use crate::frame::REPORT;
 
 // How many bytes of a line are kept: one more than the longest frame has, so that a longer line is no frame.
-pub const KEPT: usize = LONGEST + 1;
+pub const KEPT: usize = MOST_FRAME_DIGITS + 1;
 
 // The byte that ends a line.
 pub const NEWLINE: u8 = 10;
@@ -20,7 +20,7 @@ pub const NEWLINE: u8 = 10;
 const BLOCK: usize = 16;
 
 // The end of a line, and whether its bytes are digits alone.
-pub struct Span {
+pub struct LineSpan {
     pub end: usize,
     pub digits: bool,
 }
@@ -83,7 +83,7 @@ fn likely_length(s: &[u8], at: usize) -> usize
         b'1' => REPORT,
         b'2' => NAMED,
         b'3' => OWN_SHIP,
-        b'4' => LONGEST,
+        b'4' => MOST_FRAME_DIGITS,
         b'5' => NAMED,
         b'6' => ASKED,
         b'7' => ASKED,
@@ -93,15 +93,15 @@ fn likely_length(s: &[u8], at: usize) -> usize
 }
 
 // The line of s from at on. Digits alone as far as a newline need no search for it.
-pub(crate) fn line_at(s: &[u8], at: usize) -> Span
+pub(crate) fn line_at(s: &[u8], at: usize) -> LineSpan
     requires { ⌜ at ≤ length (now s) ⌝ }
-    ensures { λ r. ⌜ spec.Spans (now (s .entry)) at r ⌝ }
+    ensures { λ r. ⌜ spec.SpansLine (now (s .entry)) at r ⌝ }
 {
     let n = likely_length(s, at);
     if n < s.len() - at {
         if s[at + n] == NEWLINE {
             if hex::all_digits(&s[at..at + n]) {
-                return Span {
+                return LineSpan {
                     end: at + n,
                     digits: true,
                 };
@@ -109,7 +109,7 @@ pub(crate) fn line_at(s: &[u8], at: usize) -> Span
         }
     }
     let end = end_of_line(s, at);
-    Span {
+    LineSpan {
         end,
         digits: hex::all_digits(&s[at..end]),
     }

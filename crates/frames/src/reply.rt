@@ -4,6 +4,7 @@ ghost use Prim.Native.Nat.{_+_, _≤_};
 ghost use lib.ListN.{length};
 ghost use Rattle.hex.specs.Hex.{digits};
 ghost use Rattle.hex.specs.Write.{Put, Wrote};
+ghost use Rattle.spherical.specs.Side.{sideNumber};
 ghost use Rattle.frames.specs.Reply as spec;
 use board::line::Line;
 use jord::vec3::Vec3;
@@ -17,7 +18,7 @@ const NO_KIND: u8 = 0xff;
 const NO_FRAME: u8 = 1;
 
 // The digits of the longest reply, a line's.
-pub const LONGEST: usize = 114;
+pub const MOST_REPLY_DIGITS: usize = 114;
 
 // A reply by value.
 pub enum Reply {
@@ -49,23 +50,12 @@ fn put_float(out: &mut [u8], at: usize, x: f64) -> usize
     hex::put_number(out, at, float::bits::to_bits(x), 16)
 }
 
-// The number of a side.
-fn side_number(side: Side) -> u64
-    ensures { λ r. ⌜ r ≡ spec.sideNumber side ⌝ }
-{
-    match side {
-        Side::Left => 0,
-        Side::Right => 1,
-        Side::Collinear => 2,
-    }
-}
-
 // The two digits of a side.
 fn put_side(out: &mut [u8], at: usize, side: Side) -> usize
     requires { ⌜ at + 2 ≤ length (now out) ⌝ }
-    ensures { λ r. ⌜ Wrote (now (out .entry)) at 2 (digits 2 (spec.sideNumber side)) (now (out .exit)) r ⌝ }
+    ensures { λ r. ⌜ Wrote (now (out .entry)) at 2 (digits 2 (sideNumber side)) (now (out .exit)) r ⌝ }
 {
-    hex::put_number(out, at, side_number(side), 2)
+    hex::put_number(out, at, side.number() as u64, 2)
 }
 
 // Number, nanoseconds and count of an outcome: 20 digits.
@@ -113,7 +103,7 @@ pub fn size(reply: Reply) -> usize
     match reply {
         Reply::Done(_) => 4,
         Reply::Refused(_, _) => 4,
-        Reply::Solved(_) => LONGEST,
+        Reply::Solved(_) => MOST_REPLY_DIGITS,
         Reply::Mean(_) => 52,
         Reply::Pick(_) => 8,
         Reply::Total(_) => 12,

@@ -59,7 +59,7 @@ pub fn told(kind: u8, answer: Answer) -> Reply
     match answer {
         Answer::Done => Reply::Done(kind),
         Answer::Solved(line) => Reply::Solved(line),
-        Answer::Refused(refusal) => Reply::Refused(kind, refusal.number()),
+        Answer::Refused(_) => Reply::Refused(kind, answer.number()),
     }
 }
 
@@ -121,8 +121,8 @@ fn pick_told(choice: Choice) -> Reply
     ensures { λ r. ⌜ r ≡ spec.pickTold choice ⌝ }
 {
     match choice {
-        Choice::Target(identity) => Reply::Pick(identity),
-        Choice::Refused(refusal) => Reply::Refused(7, refusal.number()),
+        Choice::Target(_) => Reply::Pick(choice.identity()),
+        Choice::Refused(_) => Reply::Refused(7, choice.number()),
     }
 }
 

@@ -32,7 +32,7 @@ use board::targets::bared;
 use board::targets::identities;
 
 // The room that any reply fits, its newline with it.
-const ROOM: usize = crate::reply::LONGEST + 1;
+const ROOM: usize = crate::reply::MOST_REPLY_DIGITS + 1;
 
 // The session, and the first n bytes of a line that has begun.
 pub struct Stream {
@@ -42,7 +42,7 @@ pub struct Stream {
 }
 
 // A session in its parts beside the place past what was written.
-struct Answered {
+struct InParts {
     started: bool,
     setting: Setting,
     targets: Targets,
@@ -69,9 +69,9 @@ pub fn begin() -> Stream
 }
 
 // A reply and its newline over out from at on, and the place past them.
-fn put_line(out: &mut [u8], at: usize, reply: Reply) -> usize
+fn put_reply_line(out: &mut [u8], at: usize, reply: Reply) -> usize
     requires { ⌜ at + spec.room ≤ length (now out) ⌝ }
-    ensures { λ r. ⌜ spec.PutLine reply (now (out .entry)) at (now (out .exit)) r ⌝ }
+    ensures { λ r. ⌜ spec.PutReplyLine reply (now (out .entry)) at (now (out .exit)) r ⌝ }
 {
     let n = put(out, at, reply);
     out[n] = NEWLINE;
@@ -79,7 +79,7 @@ fn put_line(out: &mut [u8], at: usize, reply: Reply) -> usize
 }
 
 // The reply to a frame, with its newline, over out from at on.
-fn answer(s: Session, frame: Frame, out: &mut [u8], at: usize) -> Answered
+fn answer(s: Session, frame: Frame, out: &mut [u8], at: usize) -> InParts
     requires { ⌜ at + spec.room ≤ length (now out) ⌝ }
     ensures { λ r. ⌜ spec.Answering s frame (now (out .entry)) at (now (out .exit)) r ⌝ }
 {
@@ -89,11 +89,11 @@ fn answer(s: Session, frame: Frame, out: &mut [u8], at: usize) -> Answered
     let board = session.board;
     let targets = board.targets;
     let setting = setting_of(board);
-    Answered {
+    InParts {
         started: session.started,
         setting,
         targets,
-        next: put_line(out, at, reply),
+        next: put_reply_line(out, at, reply),
     }
 }
 
@@ -183,16 +183,16 @@ fn lines(s: Stream, xs: &[u8], page: &mut [u8]) -> Fed
         let frame = read_known(&xs[i..end], span.digits);
         match look(started, setting, &ids[..], frame) {
             Quick::Stays(reply) => {
-                at = put_line(page, at, reply);
+                at = put_reply_line(page, at, reply);
             }
             Quick::Puts(kind, p, target) => {
                 entries[p] = target;
-                at = put_line(page, at, Reply::Done(kind));
+                at = put_reply_line(page, at, Reply::Done(kind));
             }
             Quick::Sweeps(kind, after) => {
                 setting = after;
                 entries = bared(entries);
-                at = put_line(page, at, Reply::Done(kind));
+                at = put_reply_line(page, at, Reply::Done(kind));
             }
             Quick::Unclear => {
                 let whole = session_of(started, setting, entries);

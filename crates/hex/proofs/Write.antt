@@ -78,7 +78,7 @@ module _ {xs ys : List ℕ} {at : ℕ} where
         size = s;
         past = omega arith;
         within = omega arith;
-        long = ap length t ∙ length-over xs ys at r;
+        length-is = ap length t ∙ length-over xs ys at r;
         text = t;
       }
 
@@ -93,7 +93,7 @@ then {xs} {mid} {out} {ys} {zs} {at} {n} {r} {m} {q} a b =
       size = length-append ys zs ∙ omega arith;
       past = omega arith;
       within = omega arith;
-      long = omega arith;
+      length-is = omega arith;
       text = b .text ∙ ap (λ (l : List ℕ). over l r zs) (a .text) ∙ ap (λ (k : ℕ). over (over xs at ys) k zs) e ∙ over-over xs ys zs at (omega arith);
     }
 
@@ -110,7 +110,7 @@ wrote-byte xs at b h =
       size = refl;
       past = refl;
       within = omega arith;
-      long = length-set xs at b;
+      length-is = length-set xs at b;
       text = set-split xs at b h ∙ rw (add-one at) (sym (append-snoc (take at xs) b (drop (suc at) xs)));
     }
 
@@ -120,6 +120,6 @@ wrote-nothing xs at h =
       size = refl;
       past = omega arith;
       within = h;
-      long = refl;
+      length-is = refl;
       text = sym (over-nil xs at);
     }

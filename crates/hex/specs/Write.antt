@@ -28,5 +28,5 @@ pub record Wrote (xs : List ℕ) (at n : ℕ) (ys out : List ℕ) (next : ℕ) :
   pub size : length ys ≡ n
   pub past : next ≡ at + n
   pub within : next ≤ length xs
-  pub long : length out ≡ length xs
+  pub length-is : length out ≡ length xs
   pub text : out ≡ over xs at ys

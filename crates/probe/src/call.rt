@@ -16,7 +16,7 @@ use crate::ways;
 // A call has this many arguments at most, and then this many bytes.
 pub const ARGUMENTS: usize = 18;
 
-pub const LONGEST: usize = 2 + 17 * ARGUMENTS;
+pub const MOST_LINE_BYTES: usize = 2 + 17 * ARGUMENTS;
 
 // More arguments than a line has room for: how many a number takes that is no function's.
 const UNKNOWN: usize = 99;

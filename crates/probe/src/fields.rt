@@ -1,5 +1,5 @@
 // The fields of a line: arguments read from their bits, and results written over a page. Where the page has no room, nothing is written.
-use duration::Span;
+use duration::Converted;
 use jord::angle::Angle;
 use jord::mat33::Mat33;
 use jord::positions::NVector;
@@ -115,7 +115,7 @@ pub fn put_gap(page: &mut [u8], at: usize) -> usize {
 }
 
 // 00 and the nanoseconds, or the number of the reason why there are none.
-pub fn put_span(page: &mut [u8], at: usize, s: Span) -> usize {
+pub fn put_converted(page: &mut [u8], at: usize, s: Converted) -> usize {
     let number = s.number();
     let told = put_short(page, at, number as u64);
     if number != 0 {

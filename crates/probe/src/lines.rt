@@ -3,7 +3,7 @@ use crate::call;
 use crate::page;
 
 // What is kept of a line: a call with all the arguments that there is room for, and one byte more, so that a longer line is no call.
-const KEPT: usize = call::LONGEST + 1;
+const KEPT: usize = call::MOST_LINE_BYTES + 1;
 
 // The first n bytes of a line that has begun.
 pub struct Line {

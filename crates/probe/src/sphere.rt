@@ -46,7 +46,7 @@ pub fn answer(f: u64, args: &[u64], page: &mut [u8], at: usize) -> usize {
         ),
         0x71..=0x75 => put_float(page, at, number(f, args)),
         0x76..=0x78 => put_outcome(page, at, outcome(f, args)),
-        _ => put_line(page, at, args),
+        _ => put_solve(page, at, args),
     }
 }
 
@@ -91,7 +91,7 @@ fn outcome(f: u64, args: &[u64]) -> Outcome {
 }
 
 // Radius, own ship, the track's ends and the target, as a board's line has them.
-fn put_line(page: &mut [u8], at: usize, args: &[u64]) -> usize {
+fn put_solve(page: &mut [u8], at: usize, args: &[u64]) -> usize {
     let s = sphere_of(args);
     let own = vehicle_at(args, 1);
     let start = nvector_at(args, 6);

@@ -13,10 +13,10 @@ use Rattle.jord.specs.declared.speed.Speed.{Speed}
 use Rattle.jord.specs.declared.vehicle.Vehicle.{Vehicle}
 use Rattle.jord.specs.declared.positions.NVector.{NVector}
 use Rattle.duration.specs.Duration.{fromSeconds, fromHours}
-use Rattle.duration.specs.declared.Span.{Span}
-use Rattle.duration.specs.declared.Span.the-variants as span
+use Rattle.duration.specs.declared.Converted.{Converted}
+use Rattle.duration.specs.declared.Converted.the-variants as converted
 use Rattle.spherical.specs.Walk.{mostSteps, settle, walk, cpaNew, cpaValue, cpaSlope, cpaStep, cpaStart, oneMilliHours, chaseNew, corrected, intMinStep, spdCorrection, intSpdStep, interceptStart}
-use Rattle.spherical.specs.Outcome.{numberOf, countOf, ofSpan, ofWalk}
+use Rattle.spherical.specs.Outcome.{numberOf, countOf, ofConverted, ofWalk}
 use Rattle.spherical.specs.Sphere.{cpaSteps, cpaWalk, timeToCpa, perSecond, interceptSteps, interceptWalk, timeToIntercept, longestSteps, longestStart, longestWalk, maxTimeToIntercept}
 use Rattle.spherical.specs.Counts.{Counted, after, timeAfter, goesOn, Ends, Told, FoundAt}
 use Rattle.spherical.specs.declared.walk.Cpa.{Cpa}
@@ -114,23 +114,23 @@ module _ (f : Float → Step) where
   telling t walked.NotConverged r = r
 
   -- what a walk comes to is what its steps find
-  pub told : (t : Float) → Told f t (walk f mostSteps t)
-  told t = telling t (walk f mostSteps t) (told-from mostSteps t (omega arith))
+  pub outcome-tells-steps : (t : Float) → Told f t (walk f mostSteps t)
+  outcome-tells-steps t = telling t (walk f mostSteps t) (told-from mostSteps t (omega arith))
 
 -- ---- "A count is the steps begun, 1 to 50"
 
-spanned : (s : Span) (count : ℕ) → Counted count → Counted (countOf (ofSpan s count))
-spanned (span.Nanoseconds ns) count h = h
-spanned span.Negative count h = h
-spanned span.TooLong count h = h
+spanned : (s : Converted) (count : ℕ) → Counted count → Counted (countOf (ofConverted s count))
+spanned (converted.Nanoseconds ns) count h = h
+spanned converted.Negative count h = h
+spanned converted.TooLong count h = h
 
-counted-of : (duration : Float → Span) (f : Float → Step) (t : Float) (w : Walk) → Told f t w → Counted (countOf (ofWalk duration w))
+counted-of : (duration : Float → Converted) (f : Float → Step) (t : Float) (w : Walk) → Told f t w → Counted (countOf (ofWalk duration w))
 counted-of duration f t (walked.Accepted u count) r = spanned (duration u) count (r .counted)
 counted-of duration f t (walked.ZeroDerivative count) r = r .counted
 counted-of duration f t walked.NotConverged r = record { some = omega arith; most = omega arith }
 
-pub counts : (duration : Float → Span) (f : Float → Step) (t : Float) → Counted (countOf (ofWalk duration (walk f mostSteps t)))
-counts duration f t = counted-of duration f t (walk f mostSteps t) (told f t)
+pub counts : (duration : Float → Converted) (f : Float → Step) (t : Float) → Counted (countOf (ofWalk duration (walk f mostSteps t)))
+counts duration f t = counted-of duration f t (walk f mostSteps t) (outcome-tells-steps f t)
 
 pub counts-cpa : (s : Sphere) (own int : Vehicle) → Counted (countOf (timeToCpa s own int))
 unfolding timeToCpa
@@ -175,14 +175,14 @@ int-min-twelve : (k : Chase) (t : Float) → isTwelve (intMinStep k t) ≡ false
 unfolding intMinStep
 int-min-twelve k t = simp (twelve-cond, corrected-twelve, cond-same)
 
-no-twelve-of : (duration : Float → Span) (f : Float → Step) (t : Float) (w : Walk) → ((u : Float) → isTwelve (f u) ≡ false) → Told f t w
+no-twelve-of : (duration : Float → Converted) (f : Float → Step) (t : Float) (w : Walk) → ((u : Float) → isTwelve (f u) ≡ false) → Told f t w
     → numberOf (ofWalk duration w) ≡ 12 → ⊥
 no-twelve-of duration f t (walked.Accepted u count) h r e = spans (duration u) e
   where
-    spans : (s : Span) → numberOf (ofSpan s count) ≡ 12 → ⊥
-    spans (span.Nanoseconds ns) e = omega arith
-    spans span.Negative e = omega arith
-    spans span.TooLong e = omega arith
+    spans : (s : Converted) → numberOf (ofConverted s count) ≡ 12 → ⊥
+    spans (converted.Nanoseconds ns) e = omega arith
+    spans converted.Negative e = omega arith
+    spans converted.TooLong e = omega arith
 no-twelve-of duration f t (walked.ZeroDerivative count) h r e = false≢true (sym (h _) ∙ ap isTwelve (r .finds))
 no-twelve-of duration f t walked.NotConverged h r e = omega arith
 
@@ -190,26 +190,26 @@ pub no-twelve-intercept : (s : Sphere) (p : NVector) (v : Speed) (int : Vehicle)
 unfolding timeToIntercept
 no-twelve-intercept s p v int =
     let f = interceptSteps s p v int in
-    no-twelve-of fromSeconds f interceptStart (interceptWalk s p v int) (int-spd-twelve (chaseNew (s .radius) p int) (perSecond s v)) (told f interceptStart)
+    no-twelve-of fromSeconds f interceptStart (interceptWalk s p v int) (int-spd-twelve (chaseNew (s .radius) p int) (perSecond s v)) (outcome-tells-steps f interceptStart)
 
 pub no-twelve-longest : (s : Sphere) (p : NVector) (int : Vehicle) → numberOf (maxTimeToIntercept s p int) ≡ 12 → ⊥
 unfolding maxTimeToIntercept
 no-twelve-longest s p int =
     let f = longestSteps s p int in
-    no-twelve-of fromSeconds f (longestStart s p int) (longestWalk s p int) (int-min-twelve (chaseNew (s .radius) p int)) (told f (longestStart s p int))
+    no-twelve-of fromSeconds f (longestStart s p int) (longestWalk s p int) (int-min-twelve (chaseNew (s .radius) p int)) (outcome-tells-steps f (longestStart s p int))
 
 -- ---- a found time is the time of the step that its count names
 
-found-of : (duration : Float → Span) (f : Float → Step) (t : Float) (w : Walk) (ns count : ℕ) → Told f t w → ofWalk duration w ≡ Found ns count → FoundAt duration f t ns count
-found-of duration f t (walked.Accepted u n) ns count r e = of-span (duration u) refl e
+found-of : (duration : Float → Converted) (f : Float → Step) (t : Float) (w : Walk) (ns count : ℕ) → Told f t w → ofWalk duration w ≡ Found ns count → FoundAt duration f t ns count
+found-of duration f t (walked.Accepted u n) ns count r e = of-converted (duration u) refl e
   where
-    of-span : (s : Span) → duration u ≡ s → ofSpan s n ≡ Found ns count → FoundAt duration f t ns count
-    of-span (span.Nanoseconds m) d e =
+    of-converted : (s : Converted) → duration u ≡ s → ofConverted s n ≡ Found ns count → FoundAt duration f t ns count
+    of-converted (converted.Nanoseconds m) d e =
         let a : n ≡ count = cc in
         let b : m ≡ ns = cc in
-        record { time = u; ends = rw (← a) r; lasts = d ∙ ap span.Nanoseconds b }
-    of-span span.Negative d e = let z : _≡_ {A = ℕ} 0 1 = cc in absurd (zero-one z)
-    of-span span.TooLong d e = let z : _≡_ {A = ℕ} 0 1 = cc in absurd (zero-one z)
+        record { time = u; ends = rw (← a) r; lasts = d ∙ ap converted.Nanoseconds b }
+    of-converted converted.Negative d e = let z : _≡_ {A = ℕ} 0 1 = cc in absurd (zero-one z)
+    of-converted converted.TooLong d e = let z : _≡_ {A = ℕ} 0 1 = cc in absurd (zero-one z)
 found-of duration f t (walked.ZeroDerivative n) ns count r e = let z : _≡_ {A = ℕ} 0 1 = cc in absurd (zero-one z)
 found-of duration f t walked.NotConverged ns count r e = let z : _≡_ {A = ℕ} 0 1 = cc in absurd (zero-one z)
 
@@ -226,11 +226,11 @@ cpa-accepts k x u e =
     accepts-before (Ieee.eq (cpaSlope k x) literal.zero) (lt (magnitude m) oneMilliHours) x u (x ⊖ m) e
 
 pub found-cpa : (s : Sphere) (own int : Vehicle) (ns count : ℕ) → timeToCpa s own int ≡ Found ns count
-    → fromHours (timeAfter (cpaSteps s own int) cpaStart (count - 1)) ≡ span.Nanoseconds ns
+    → fromHours (timeAfter (cpaSteps s own int) cpaStart (count - 1)) ≡ converted.Nanoseconds ns
 unfolding timeToCpa
 found-cpa s own int ns count e =
     let f = cpaSteps s own int in
-    let r = found-of fromHours f cpaStart (cpaWalk s own int) ns count (told f cpaStart) e in
+    let r = found-of fromHours f cpaStart (cpaWalk s own int) ns count (outcome-tells-steps f cpaStart) e in
     ap fromHours (sym (cpa-accepts (cpaNew (s .radius) own int) (timeAfter f cpaStart (count - 1)) (r .time) (r .ends .finds))) ∙ r .lasts
 
 pub found-intercept : (s : Sphere) (p : NVector) (v : Speed) (int : Vehicle) (ns count : ℕ) → timeToIntercept s p v int ≡ Found ns count
@@ -238,11 +238,11 @@ pub found-intercept : (s : Sphere) (p : NVector) (v : Speed) (int : Vehicle) (ns
 unfolding timeToIntercept
 found-intercept s p v int ns count e =
     let f = interceptSteps s p v int in
-    found-of fromSeconds f interceptStart (interceptWalk s p v int) ns count (told f interceptStart) e
+    found-of fromSeconds f interceptStart (interceptWalk s p v int) ns count (outcome-tells-steps f interceptStart) e
 
 pub found-longest : (s : Sphere) (p : NVector) (int : Vehicle) (ns count : ℕ) → maxTimeToIntercept s p int ≡ Found ns count
     → FoundAt fromSeconds (longestSteps s p int) (longestStart s p int) ns count
 unfolding maxTimeToIntercept
 found-longest s p int ns count e =
     let f = longestSteps s p int in
-    found-of fromSeconds f (longestStart s p int) (longestWalk s p int) ns count (told f (longestStart s p int)) e
+    found-of fromSeconds f (longestStart s p int) (longestWalk s p int) ns count (outcome-tells-steps f (longestStart s p int)) e

@@ -8,7 +8,7 @@ use lib.ListN.{length, drop}
 use lib.Ieee.{Float}
 use Rattle.jord.specs.Positions.{nvectorNew}
 use Rattle.jord.specs.declared.positions.NVector.{NVector}
-use Rattle.spherical.specs.Mean.{containsAntipodal, vec3Mean, meanOf, positions, positionAt, meanPosition}
+use Rattle.spherical.specs.Mean.{containsAntipodal, vec3Mean, meanOf, positions, nthPosition, meanPosition}
 use Rattle.spherical.specs.declared.mean.Mean.the-variants.{Position, Empty, Antipodal}
 use Rattle.spherical.proofs.Positions.{positions-on, positions-few, positions-out}
 
@@ -31,12 +31,12 @@ module _ (cs : List Float) where
   unfolding meanPosition
   mean-antipodal e = antipodal-of (positions cs) e
 
-  pub mean-one : 3 ≤ length cs → length cs < 6 → containsAntipodal (positions cs) ≡ false → meanPosition cs ≡ Position (positionAt cs 0)
+  pub mean-one : 3 ≤ length cs → length cs < 6 → containsAntipodal (positions cs) ≡ false → meanPosition cs ≡ Position (nthPosition cs 0)
   unfolding meanPosition
   mean-one h k e =
-      one-of (positions cs) (positionAt cs 0) (positions-on cs 0 (omega arith) ∙ ap (λ (l : List NVector). positionAt cs 0 ∷ l) (positions-out cs 1 (omega arith))) e
+      one-of (positions cs) (nthPosition cs 0) (positions-on cs 0 (omega arith) ∙ ap (λ (l : List NVector). nthPosition cs 0 ∷ l) (positions-out cs 1 (omega arith))) e
 
   pub mean-more : 6 ≤ length cs → containsAntipodal (positions cs) ≡ false → meanPosition cs ≡ Position (nvectorNew (vec3Mean (positions cs)))
   unfolding meanPosition
   mean-more h e =
-      more-of (positions cs) (positionAt cs 0) (positionAt cs 1) (positions (drop 6 cs)) (positions-on cs 0 (omega arith) ∙ ap (λ (l : List NVector). positionAt cs 0 ∷ l) (positions-on cs 1 (omega arith))) e
+      more-of (positions cs) (nthPosition cs 0) (nthPosition cs 1) (positions (drop 6 cs)) (positions-on cs 0 (omega arith) ∙ ap (λ (l : List NVector). nthPosition cs 0 ∷ l) (positions-on cs 1 (omega arith))) e

@@ -9,14 +9,14 @@ use lib.Ieee.{Float, lt}
 use Rattle.float.specs.Operators.{_⊖_, _⊘_}
 use Rattle.float.specs.Bits.{magnitude}
 use Rattle.duration.specs.Duration.{fromSeconds, fromHours}
-use Rattle.duration.specs.declared.Span.{Span}
-use Rattle.duration.specs.declared.Span.the-variants as span
+use Rattle.duration.specs.declared.Converted.{Converted}
+use Rattle.duration.specs.declared.Converted.the-variants as converted
 use Rattle.jord.specs.Literal as literal
 use Rattle.jord.specs.declared.speed.Speed.{Speed}
 use Rattle.jord.specs.declared.vehicle.Vehicle.{Vehicle}
 use Rattle.jord.specs.declared.positions.NVector.{NVector}
 use Rattle.spherical.specs.Walk.{mostSteps, walk, cpaNew, cpaValue, cpaSlope, cpaStep, cpaStart, oneMilliHours, chaseNew, sep, interceptEpsilon, corrected, minCorrection, intMinStep, spdCorrection, intSpdStep, interceptStart}
-use Rattle.spherical.specs.Outcome.{numberOf, ofSpan, ofWalk}
+use Rattle.spherical.specs.Outcome.{numberOf, ofConverted, ofWalk}
 use Rattle.spherical.specs.Sphere.{cpaSteps, timeToCpa, perSecond, interceptSteps, timeToIntercept, longestSteps, longestStart, maxTimeToIntercept}
 use Rattle.spherical.specs.Counts.{timeAfter, goesOn, Ends, Told, CpaMoves, Moves, SpdMoves, MinMoves}
 use Rattle.spherical.specs.declared.walk.Cpa.{Cpa}
@@ -26,7 +26,7 @@ use Rattle.spherical.specs.declared.walk.Step.the-variants as step
 use Rattle.spherical.specs.declared.walk.Walk.{Walk}
 use Rattle.spherical.specs.declared.walk.Walk.the-variants as walked
 use Rattle.spherical.specs.declared.sphere.Sphere.{Sphere}
-use Rattle.spherical.proofs.Counts.{told}
+use Rattle.spherical.proofs.Counts.{outcome-tells-steps}
 
 -- ---- a step goes on exactly where no test passes
 
@@ -73,14 +73,14 @@ min-moves k t = (to, λ h. rw (h .apart) (moves t (minCorrection k t) .1 (h .mov
 
 -- ---- a walk says 13 exactly where fifty steps go on
 
-went-on : (duration : Float → Span) (f : Float → Step) (t : Float) (w : Walk) → Told f t w → numberOf (ofWalk duration w) ≡ 13
+went-on : (duration : Float → Converted) (f : Float → Step) (t : Float) (w : Walk) → Told f t w → numberOf (ofWalk duration w) ≡ 13
     → (i : ℕ) → i < mostSteps → goesOn (f (timeAfter f t i)) ≡ true
 went-on duration f t (walked.Accepted u count) r e i l = absurd (spans (duration u) e)
   where
-    spans : (s : Span) → numberOf (ofSpan s count) ≡ 13 → ⊥
-    spans (span.Nanoseconds ns) e = omega arith
-    spans span.Negative e = omega arith
-    spans span.TooLong e = omega arith
+    spans : (s : Converted) → numberOf (ofConverted s count) ≡ 13 → ⊥
+    spans (converted.Nanoseconds ns) e = omega arith
+    spans converted.Negative e = omega arith
+    spans converted.TooLong e = omega arith
 went-on duration f t (walked.ZeroDerivative count) r e i l = absurd (twelve e)
   where
     twelve : _≡_ {A = ℕ} 12 13 → ⊥
@@ -95,17 +95,17 @@ ended f t count s r e h =
     let most = r .counted .most in
     false≢true (sym e ∙ sym (ap goesOn (r .finds)) ∙ h (count - 1) (omega arith))
 
-spent : (duration : Float → Span) (f : Float → Step) (t : Float) (w : Walk) → Told f t w
+spent : (duration : Float → Converted) (f : Float → Step) (t : Float) (w : Walk) → Told f t w
     → ((i : ℕ) → i < mostSteps → goesOn (f (timeAfter f t i)) ≡ true) → numberOf (ofWalk duration w) ≡ 13
 spent duration f t (walked.Accepted u count) r h = absurd (ended f t count (step.Accepted u) r refl h)
 spent duration f t (walked.ZeroDerivative count) r h = absurd (ended f t count step.ZeroDerivative r refl h)
 spent duration f t walked.NotConverged r h = refl
 
-means : (duration : Float → Span) (f : Float → Step) (t : Float) (Moving : Float → Type 0) → ((u : Float) → goesOn (f u) ≡ true ↔ Moving u)
+means : (duration : Float → Converted) (f : Float → Step) (t : Float) (Moving : Float → Type 0) → ((u : Float) → goesOn (f u) ≡ true ↔ Moving u)
     → numberOf (ofWalk duration (walk f mostSteps t)) ≡ 13 ↔ ((i : ℕ) → i < mostSteps → Moving (timeAfter f t i))
 means duration f t Moving m =
     let w = walk f mostSteps t in
-    (λ e i l. m (timeAfter f t i) .0 (went-on duration f t w (told f t) e i l), λ h. spent duration f t w (told f t) (λ i l. m (timeAfter f t i) .1 (h i l)))
+    (λ e i l. m (timeAfter f t i) .0 (went-on duration f t w (outcome-tells-steps f t) e i l), λ h. spent duration f t w (outcome-tells-steps f t) (λ i l. m (timeAfter f t i) .1 (h i l)))
 
 pub thirteen-cpa : (s : Sphere) (own int : Vehicle)
     → numberOf (timeToCpa s own int) ≡ 13

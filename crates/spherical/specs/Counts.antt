@@ -7,8 +7,8 @@ use lib.Ieee.{Float, lt}
 use Rattle.float.specs.Operators.{_⊖_, _⊘_}
 use Rattle.float.specs.Bits.{magnitude}
 use Rattle.jord.specs.Literal as literal
-use Rattle.duration.specs.declared.Span.{Span}
-use Rattle.duration.specs.declared.Span.the-variants.{Nanoseconds}
+use Rattle.duration.specs.declared.Converted.{Converted}
+use Rattle.duration.specs.declared.Converted.the-variants.{Nanoseconds}
 use Rattle.spherical.specs.Walk.{mostSteps, oneMilliHours, cpaValue, cpaSlope, sep, interceptEpsilon, minCorrection, spdCorrection}
 use Rattle.spherical.specs.declared.walk.Cpa.{Cpa}
 use Rattle.spherical.specs.declared.walk.Chase.{Chase}
@@ -52,7 +52,7 @@ Told f t (walked.ZeroDerivative count) = Ends f t count step.ZeroDerivative
 Told f t walked.NotConverged = (i : ℕ) → i < mostSteps → goesOn (f (timeAfter f t i)) ≡ true
 
 -- the step of this count accepts a time whose duration is ns nanoseconds
-pub record FoundAt (duration : Float → Span) (f : Float → Step) (t : Float) (ns count : ℕ) : Type 0 where
+pub record FoundAt (duration : Float → Converted) (f : Float → Step) (t : Float) (ns count : ℕ) : Type 0 where
   pub time : Float
   pub ends : Ends f t count (step.Accepted time)
   pub lasts : duration time ≡ Nanoseconds ns

@@ -1,3 +1,4 @@
+pub mod Side
 pub mod Base
 pub mod GreatCircle
 pub mod MinorArc

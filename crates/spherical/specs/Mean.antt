@@ -88,8 +88,8 @@ positions (x ∷ y ∷ []) = []
 positions (x ∷ y ∷ z ∷ cs) = nvectorNew (vec3.new x y z) ∷ positions cs
 
 -- the i-th of them, where there are as many
-abbrev pub positionAt : List Float → ℕ → NVector
-positionAt cs i = nvectorNew (vec3.new (getD cs (3 * i) nan) (getD cs (3 * i + 1) nan) (getD cs (3 * i + 2) nan))
+abbrev pub nthPosition : List Float → ℕ → NVector
+nthPosition cs i = nvectorNew (vec3.new (getD cs (3 * i) nan) (getD cs (3 * i + 1) nan) (getD cs (3 * i + 2) nan))
 
 -- "`mean_position` over a lent list of positions first takes coordinates"
 unfoldable pub meanPosition : List Float → Mean

@@ -2,8 +2,8 @@
 use Prim.Native.Nat.{ℕ}
 use lib.Ieee.{Float}
 use Rattle.duration.specs.Duration.{fromSeconds, fromHours}
-use Rattle.duration.specs.declared.Span.{Span}
-use Rattle.duration.specs.declared.Span.the-variants as span
+use Rattle.duration.specs.declared.Converted.{Converted}
+use Rattle.duration.specs.declared.Converted.the-variants as converted
 use Rattle.spherical.specs.Walk.{mostSteps}
 use Rattle.spherical.specs.declared.walk.Walk.{Walk}
 use Rattle.spherical.specs.declared.walk.Walk.the-variants as walked
@@ -35,14 +35,14 @@ nanosecondsOf (Negative count) = 0
 nanosecondsOf (TooLong count) = 0
 
 -- "Is it zero or more? 14. Is it below 2^34 seconds? 15": as the time's duration answers them
-abbrev pub ofSpan : Span → ℕ → Outcome
-ofSpan (span.Nanoseconds ns) count = Found ns count
-ofSpan span.Negative count = Negative count
-ofSpan span.TooLong count = TooLong count
+abbrev pub ofConverted : Converted → ℕ → Outcome
+ofConverted (converted.Nanoseconds ns) count = Found ns count
+ofConverted converted.Negative count = Negative count
+ofConverted converted.TooLong count = TooLong count
 
 -- "`newton_raphson`: is the derivative other than zero? 12. Walk: was a time accepted within 50 steps? 13", then 14 and 15
-abbrev pub ofWalk : (Float → Span) → Walk → Outcome
-ofWalk duration (walked.Accepted t count) = ofSpan (duration t) count
+abbrev pub ofWalk : (Float → Converted) → Walk → Outcome
+ofWalk duration (walked.Accepted t count) = ofConverted (duration t) count
 ofWalk duration (walked.ZeroDerivative count) = ZeroDerivative count
 ofWalk duration walked.NotConverged = NotConverged
 

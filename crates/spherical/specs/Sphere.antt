@@ -151,8 +151,8 @@ positionOnGreatCircle p1 p2 a =
     nvectorNew (vec3.unit (towards (asVec3 p1) (vec3.crossProdUnit (vec3.orthogonalTo (asVec3 p1) (asVec3 p2)) (asVec3 p1)) (a .radians)))
 
 -- if f == 0.0 { p1 } else if f == 1.0 { p2 } else { Self::position_on_great_circle(p1, p2, a) }, with a = f * Self::angle(p1, p2)
-abbrev positionAt : NVector → NVector → Float → NVector
-positionAt p1 p2 f =
+abbrev nthPosition : NVector → NVector → Float → NVector
+nthPosition p1 p2 f =
     cond (Ieee.eq f zero) p1 (cond (Ieee.eq f one) p2 (positionOnGreatCircle p1 p2 (angles.mul (angle p1 p2) f)))
 
 -- (0.0..=1.0).contains(&f)
@@ -162,7 +162,7 @@ isFraction f = le zero f && le f one
 -- "is the fraction within 0.0 to 1.0? 18"
 unfoldable pub interpolatedPosition : NVector → NVector → Float → Interpolated
 unfolding le Ieee.eq
-interpolatedPosition p1 p2 f = cond (isFraction f) (Position (positionAt p1 p2 f)) Outside
+interpolatedPosition p1 p2 f = cond (isFraction f) (Position (nthPosition p1 p2 f)) Outside
 
 -- ---- the closest approach, over hours
 

@@ -1,4 +1,7 @@
 // The source's spherical folder: a module to a file.
+ghost use mathlib.Core.Path.{_≡_};
+ghost use Rattle.spherical.specs.Side.{sideNumber};
+
 pub mod base;
 pub mod course;
 pub mod great_circle;
@@ -16,4 +19,17 @@ pub enum Side {
     Right,
     // On it, within EPSILON.
     Collinear,
+}
+
+impl Side {
+    // Document 01's number of the side.
+    pub fn number(self) -> u8
+        ensures { λ r. ⌜ r ≡ sideNumber self ⌝ }
+    {
+        match self {
+            Side::Left => 0,
+            Side::Right => 1,
+            Side::Collinear => 2,
+        }
+    }
 }

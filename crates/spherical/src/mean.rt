@@ -40,7 +40,7 @@ pub fn mean_position(cs: &[f64]) -> Mean
         return Mean::Antipodal;
     }
     if cs.len() < 6 {
-        return Mean::Position(position_at(cs, 0));
+        return Mean::Position(nth_position(cs, 0));
     }
     Mean::Position(NVector::new(vec3_mean(cs)))
 }
@@ -63,7 +63,7 @@ fn contains_antipodal(cs: &[f64]) -> bool
     let n = cs.len() / 3;
     let mut i = 0;
     while i < n {
-        if contains(cs, position_at(cs, i).antipode()) {
+        if contains(cs, nth_position(cs, i).antipode()) {
             return true;
         }
         i += 1;
@@ -78,7 +78,7 @@ fn contains(cs: &[f64], a: NVector) -> bool
     let n = cs.len() / 3;
     let mut i = 0;
     while i < n {
-        if position_at(cs, i).eq(a) {
+        if nth_position(cs, i).eq(a) {
             return true;
         }
         i += 1;
@@ -102,7 +102,7 @@ fn sum(cs: &[f64]) -> Vec3
     let mut s = Vec3::ZERO;
     let mut i = 0;
     while i < n {
-        s = plus(s, position_at(cs, i));
+        s = plus(s, nth_position(cs, i));
         i += 1;
     }
     s
@@ -121,9 +121,9 @@ pub fn plus(s: Vec3, p: NVector) -> Vec3
 }
 
 // The i-th position, counted from 0.
-fn position_at(cs: &[f64], i: usize) -> NVector
+fn nth_position(cs: &[f64], i: usize) -> NVector
     requires { ⌜ 3 * i + 2 < length (now cs) ⌝ }
-    ensures { λ r. ⌜ r ≡ spec.positionAt (now (cs .entry)) i ⌝ }
+    ensures { λ r. ⌜ r ≡ spec.nthPosition (now (cs .entry)) i ⌝ }
 {
     NVector::new(Vec3::new(cs[3 * i], cs[3 * i + 1], cs[3 * i + 2]))
 }

@@ -3,7 +3,7 @@ ghost use mathlib.Core.Path.{_≡_};
 ghost use Rattle.spherical.specs.Outcome as spec;
 use crate::walk::MOST_STEPS;
 use crate::walk::Walk;
-use duration::Span;
+use duration::Converted;
 
 // A duration, or why there is none. A count is the steps begun.
 pub enum Outcome {
@@ -72,7 +72,7 @@ impl Outcome {
         ensures { λ r. ⌜ r ≡ spec.ofSeconds w ⌝ }
     {
         match w {
-            Walk::Accepted { time, count } => of_span(duration::from_seconds(time), count),
+            Walk::Accepted { time, count } => of_converted(duration::from_seconds(time), count),
             Walk::ZeroDerivative { count } => Outcome::ZeroDerivative { count },
             Walk::NotConverged => Outcome::NotConverged,
         }
@@ -83,7 +83,7 @@ impl Outcome {
         ensures { λ r. ⌜ r ≡ spec.ofHours w ⌝ }
     {
         match w {
-            Walk::Accepted { time, count } => of_span(duration::from_hours(time), count),
+            Walk::Accepted { time, count } => of_converted(duration::from_hours(time), count),
             Walk::ZeroDerivative { count } => Outcome::ZeroDerivative { count },
             Walk::NotConverged => Outcome::NotConverged,
         }
@@ -91,12 +91,12 @@ impl Outcome {
 }
 
 // The outcome of a time that was accepted at the count-th step, by its duration.
-fn of_span(span: Span, count: u32) -> Outcome
-    ensures { λ r. ⌜ r ≡ spec.ofSpan span count ⌝ }
+fn of_converted(converted: Converted, count: u32) -> Outcome
+    ensures { λ r. ⌜ r ≡ spec.ofConverted converted count ⌝ }
 {
-    match span {
-        Span::Nanoseconds(nanoseconds) => Outcome::Found { nanoseconds, count },
-        Span::Negative => Outcome::Negative { count },
-        Span::TooLong => Outcome::TooLong { count },
+    match converted {
+        Converted::Nanoseconds(nanoseconds) => Outcome::Found { nanoseconds, count },
+        Converted::Negative => Outcome::Negative { count },
+        Converted::TooLong => Outcome::TooLong { count },
     }
 }

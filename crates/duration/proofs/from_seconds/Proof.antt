@@ -21,14 +21,14 @@ returns-2 c = let t = c .before .before .args .t in second-no (zeroOrMore t) (be
 to-bits-requires : tie.Need-to-bits-requires
 to-bits-requires c κs = search needs
 
-parts-of-requires : tie.Need-parts-of-requires
-parts-of-requires c κs = search needs
+unpack-requires : tie.Need-unpack-requires
+unpack-requires c κs = search needs
 
 nearest-even-requires : tie.Need-nearest-even-requires
 unfolding ofBits ofInt
 nearest-even-requires c κs =
     let s = c .before .before .before .before in
-    let d = seconds-digits (s .args .t) (c .before .to-bits .result) (c .parts-of .result) (subst T (sym (s .good .0 .1)) tt) (c .before .before .before .if1 .left) (c .before .before .if2 .left) (c .before .to-bits .ensures) (c .parts-of .ensures) in
+    let d = seconds-digits (s .args .t) (c .before .to-bits .result) (c .unpack .result) (subst T (sym (s .good .0 .1)) tt) (c .before .before .before .if1 .left) (c .before .before .if2 .left) (c .before .to-bits .ensures) (c .unpack .ensures) in
     let l = d .low in
     (d .parts .placed .small, omega arith)
 
@@ -37,13 +37,13 @@ unfolding fromSeconds ofBits ofInt
 returns-3 c =
     let s = c .before .before .before .before .before in
     let t = s .args .t in
-    let p = c .before .parts-of .result in
+    let p = c .before .unpack .result in
     let x = c .before .before .before .before .if1 .left in
     let y = c .before .before .before .if2 .left in
-    let d = seconds-digits t (c .before .before .to-bits .result) p (subst T (sym (s .good .0 .1)) tt) x y (c .before .before .to-bits .ensures) (c .before .parts-of .ensures) in
+    let d = seconds-digits t (c .before .before .to-bits .result) p (subst T (sym (s .good .0 .1)) tt) x y (c .before .before .to-bits .ensures) (c .before .unpack .ensures) in
     both (zeroOrMore t) (belowLimit t) (c .nearest-even .result) (exactNanoseconds t) x y (c .nearest-even .ensures ∙ seconds-same t (p .digits) (p .place) (d .parts))
 
 pub from-seconds-spec : {M : Type 1} → statement M
 from-seconds-spec =
     tie.close
-    (tie.spec returns returns-2 to-bits-requires parts-of-requires nearest-even-requires returns-3)
+    (tie.spec returns returns-2 to-bits-requires unpack-requires nearest-even-requires returns-3)

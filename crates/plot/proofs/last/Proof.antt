@@ -18,12 +18,12 @@ finish-requires c κs = search needs
 array-share-prefix-page : tie.Need-array-share-prefix-page
 array-share-prefix-page c =
     let w = c .before .finish .ensures .finished (omega arith) .wrote in
-    omega (arith, w .within, w .long)
+    omega (arith, w .within, w .length-is)
 
 slice-aggregate-write-all : tie.Need-slice-aggregate-write-all
 slice-aggregate-write-all c =
     let w = c .before .before .finish .ensures .finished (omega arith) .wrote in
-    sym (length-take-le _ _ (omega (arith, w .within, w .long)))
+    sym (length-take-le _ _ (omega (arith, w .within, w .length-is)))
 
 write-all-requires : tie.Need-write-all-requires
 write-all-requires c κs = search needs

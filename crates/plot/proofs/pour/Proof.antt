@@ -40,18 +40,18 @@ add-i c =
 slice-reshare-prefix-write-all : tie.Need-slice-reshare-prefix-write-all Inv-loop μ-loop
 slice-reshare-prefix-write-all c =
     let w = c .before .before .before .before .feed .ensures .wrote in
-    omega (arith, w .within, w .long)
+    omega (arith, w .within, w .length-is)
 
 slice-aggregate-write-all : tie.Need-slice-aggregate-write-all Inv-loop μ-loop
 slice-aggregate-write-all c =
     let w = c .before .before .before .before .before .feed .ensures .wrote in
-    sym (length-take-le _ _ (omega (arith, w .within, w .long)))
+    sym (length-take-le _ _ (omega (arith, w .within, w .length-is)))
 
 write-all-requires : tie.Need-write-all-requires Inv-loop μ-loop
 write-all-requires c κs = tt
 
 same-length : tie.Need-same-length Inv-loop μ-loop
-same-length c = c .before .before .before .before .before .before .before .feed .ensures .wrote .long ∙ c .before .before .before .before .before .before .before .before .before .before .before .loop .inv .1
+same-length c = c .before .before .before .before .before .before .before .feed .ensures .wrote .length-is ∙ c .before .before .before .before .before .before .before .before .before .before .before .loop .inv .1
 
 returns : tie.Need-returns Inv-loop μ-loop
 returns c = λ e. let z : ⊥ = omega (arith, e) in absurd z
@@ -72,7 +72,7 @@ loop-again c =
     let e = part-length (a .xs .now) (l .i) (omega arith) in
     let f = c .before .before .before .before .before .before .before .feed .ensures in (
       omega (arith, e, f .within),
-      f .wrote .long ∙ l .inv .1,
+      f .wrote .length-is ∙ l .inv .1,
       f .state-is ∙ poured (view (a .s)) _ (a .xs .now) (l .i) (c .before .before .before .before .before .before .before .feed .result .used) (l .inv .2) (omega (arith, e, f .within)),
     )
 

@@ -10,7 +10,7 @@ use Rattle.jord.specs.Positions.{eq}
 use Rattle.spherical.specs.Mean.{any}
 use Rattle.board.specs.Asking.{positions}
 use Rattle.board.proofs.Loops.{any-on, any-out}
-use Rattle.board.proofs.Parts.{nowhere, enough, position-is, contains-none}
+use Rattle.board.proofs.Columns.{nowhere, enough, position-is, contains-none}
 use Rattle.board.proofs.asking.contains.Statement.{statement}
 use Rattle.board.proofs.asking.contains.Tie as tie
 
@@ -37,8 +37,8 @@ returns c =
 loop-holds : tie.Need-loop-holds Inv-loop μ-loop
 loop-holds c = search needs
 
-position-at-requires : tie.Need-position-at-requires Inv-loop μ-loop
-position-at-requires c κs = search needs
+column-position-requires : tie.Need-column-position-requires Inv-loop μ-loop
+column-position-requires c κs = search needs
 
 eq-requires : tie.Need-eq-requires Inv-loop μ-loop
 eq-requires c κs = tt
@@ -46,7 +46,7 @@ eq-requires c κs = tt
 returns-2 : tie.Need-returns-2 Inv-loop μ-loop
 returns-2 c = let at = c .before .before .before .before in
     let a = at .before .before .before .before .before .before .before .args in
-    let p = c .before .before .position-at in
+    let p = c .before .before .column-position in
     sym
     (any-on (a .n) (positions (a .xs .now) (a .ys .now) (a .zs .now)) (omega arith) (at .loop .i) (λ p. eq p (a .a)) false (at .loop .inv .2) nowhere (p .result) (omega arith)
     (position-is (a .xs .now) (a .ys .now) (a .zs .now) (at .loop .i) (p .result) (omega arith) (p .ensures))
@@ -64,7 +64,7 @@ loop-less c = search needs
 loop-again : tie.Need-loop-again Inv-loop μ-loop
 loop-again c = let at = c .before .before .before .before in
     let a = at .before .before .before .before .before .before .before .args in
-    let p = c .before .before .position-at in (
+    let p = c .before .before .column-position in (
       search needs,
       search needs,
       any-on (a .n) (positions (a .xs .now) (a .ys .now) (a .zs .now)) (omega arith) (at .loop .i) (λ p. eq p (a .a)) false (at .loop .inv .2) nowhere (p .result) (omega arith)
@@ -91,7 +91,7 @@ contains-spec =
     among-requires
     returns
     loop-holds
-    position-at-requires
+    column-position-requires
     eq-requires
     returns-2
     add-i

@@ -11,7 +11,7 @@ use Rattle.jord.specs.Positions.{antipode}
 use Rattle.spherical.specs.Mean.{any, contains}
 use Rattle.board.specs.Asking.{positions}
 use Rattle.board.proofs.Loops.{any-on, any-out}
-use Rattle.board.proofs.Parts.{nowhere, position-is}
+use Rattle.board.proofs.Columns.{nowhere, position-is}
 use Rattle.board.proofs.asking.contains_antipodal.Statement.{statement}
 use Rattle.board.proofs.asking.contains_antipodal.Tie as tie
 
@@ -32,8 +32,8 @@ asked ps p r t e f = f ∙ ap (λ (r : NVector). contains r ps) e
 loop-holds : tie.Need-loop-holds Inv-loop μ-loop
 loop-holds c = search needs
 
-position-at-requires : tie.Need-position-at-requires Inv-loop μ-loop
-position-at-requires c κs = search needs
+column-position-requires : tie.Need-column-position-requires Inv-loop μ-loop
+column-position-requires c κs = search needs
 
 antipode-requires : tie.Need-antipode-requires Inv-loop μ-loop
 antipode-requires c κs = tt
@@ -44,7 +44,7 @@ contains-requires c κs = search needs
 returns : tie.Need-returns Inv-loop μ-loop
 returns c = let at = c .before .before .before .before .before in
     let a = at .before .before .before .before .args in
-    let p = c .before .before .before .position-at in
+    let p = c .before .before .before .column-position in
     let ps = positions (a .xs .now) (a .ys .now) (a .zs .now) in
     sym
     (any-on (a .n) ps (omega arith) (at .loop .i) (opposed (take (a .n) ps)) false (at .loop .inv .2) nowhere (p .result) (omega arith)
@@ -63,7 +63,7 @@ loop-less c = search needs
 loop-again : tie.Need-loop-again Inv-loop μ-loop
 loop-again c = let at = c .before .before .before .before .before in
     let a = at .before .before .before .before .args in
-    let p = c .before .before .before .position-at in
+    let p = c .before .before .before .column-position in
     let ps = positions (a .xs .now) (a .ys .now) (a .zs .now) in (
       search needs,
       search needs,
@@ -88,7 +88,7 @@ contains-antipodal-spec =
     Inv-loop
     μ-loop
     loop-holds
-    position-at-requires
+    column-position-requires
     antipode-requires
     contains-requires
     returns

@@ -9,30 +9,30 @@ use Rattle.board.specs.Code.{plain}
 use Rattle.board.specs.Asking.{positionOf, mean}
 use Rattle.board.specs.declared.targets.Target.{Target}
 use Rattle.board.proofs.Arrays.{length-map}
-use Rattle.board.proofs.Parts.{positions-are, take-map}
+use Rattle.board.proofs.Columns.{positions-are, take-map}
 use Rattle.board.proofs.Slots.{at-most-le, listed-is}
 use Rattle.board.proofs.asking.mean.Statement.{statement}
 use Rattle.board.proofs.asking.mean.Tie as tie
 
-parts-of-requires : tie.Need-parts-of-requires
-parts-of-requires c κs = search needs
+columns-of-requires : tie.Need-columns-of-requires
+columns-of-requires c κs = search needs
 
 least-requires : tie.Need-least-requires
 least-requires c κs = search needs
 
 mean-of-requires : tie.Need-mean-of-requires
 mean-of-requires c κs = let ts = c .before .before .before .before .args .board .targets in
-    rw (positions-are (c .before .parts-of .result) (ts .entries) (c .before .parts-of .ensures .0), length-map positionOf (ts .entries), c .before .parts-of .ensures .1, c .least .ensures) (at-most-le (ts .count))
+    rw (positions-are (c .before .columns-of .result) (ts .entries) (c .before .columns-of .ensures .0), length-map positionOf (ts .entries), c .before .columns-of .ensures .1, c .least .ensures) (at-most-le (ts .count))
 
 returns : tie.Need-returns
 unfolding mean plain
 returns c = let ts = c .before .before .before .before .before .args .board .targets in
     let n = c .before .least .result in
-    let ps = c .before .before .parts-of in
+    let ps = c .before .before .columns-of in
     c .mean-of .ensures
     ∙ ap (λ (l : List NVector). meanOf (take n l)) (positions-are (ps .result) (ts .entries) (ps .ensures .0))
     ∙ ap meanOf (take-map positionOf n (ts .entries))
     ∙ ap (λ (l : List Target). meanOf (map positionOf l)) (listed-is ts n (c .before .least .ensures))
 
 pub mean-spec : {M : Type 1} → statement M
-mean-spec = tie.close (tie.spec parts-of-requires least-requires mean-of-requires returns)
+mean-spec = tie.close (tie.spec columns-of-requires least-requires mean-of-requires returns)

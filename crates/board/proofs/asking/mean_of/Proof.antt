@@ -3,7 +3,7 @@ use native.Mathlib.Omega.{arith}
 use borrow.Author.Needs.{needs}
 use Rattle.board.specs.Asking.{positions}
 use Rattle.board.proofs.Means.{mean-antipodal, mean-one, mean-more}
-use Rattle.board.proofs.Parts.{nowhere, position-is}
+use Rattle.board.proofs.Columns.{nowhere, position-is}
 use Rattle.board.proofs.asking.mean_of.Statement.{statement}
 use Rattle.board.proofs.asking.mean_of.Tie as tie
 
@@ -27,22 +27,22 @@ returns-2 c = let a = c .before .before .before .before .before .before .before 
     let q = c .before .contains-antipodal in
     mean-antipodal (positions (a .ps .xs) (a .ps .ys) (a .ps .zs)) (a .n) (omega arith) nowhere (q .result) (q .ensures) (c .if2 .taken)
 
-slice-aggregate-position-at : tie.Need-slice-aggregate-position-at
-slice-aggregate-position-at c = search needs
+slice-aggregate-column-position : tie.Need-slice-aggregate-column-position
+slice-aggregate-column-position c = search needs
 
-slice-aggregate-position-at-2 : tie.Need-slice-aggregate-position-at-2
-slice-aggregate-position-at-2 c = search needs
+slice-aggregate-column-position-2 : tie.Need-slice-aggregate-column-position-2
+slice-aggregate-column-position-2 c = search needs
 
-slice-aggregate-position-at-3 : tie.Need-slice-aggregate-position-at-3
-slice-aggregate-position-at-3 c = search needs
+slice-aggregate-column-position-3 : tie.Need-slice-aggregate-column-position-3
+slice-aggregate-column-position-3 c = search needs
 
-position-at-requires : tie.Need-position-at-requires
-position-at-requires c κs = search needs
+column-position-requires : tie.Need-column-position-requires
+column-position-requires c κs = search needs
 
 returns-3 : tie.Need-returns-3
 returns-3 c = let a = c .before .before .before .before .before .before .before .before .before .before .before .before .before .before .args in
     let q = c .before .before .before .before .before .before .contains-antipodal in
-    let p = c .position-at in
+    let p = c .column-position in
     mean-one (positions (a .ps .xs) (a .ps .ys) (a .ps .zs)) (a .n) (omega arith) nowhere (q .result) (q .ensures) (p .result)
     (position-is (a .ps .xs) (a .ps .ys) (a .ps .zs) 0 (p .result) (omega arith) (p .ensures))
     (c .before .before .before .before .before .if2 .left)
@@ -82,10 +82,10 @@ mean-of-spec =
     slice-aggregate-contains-antipodal-3
     contains-antipodal-requires
     returns-2
-    slice-aggregate-position-at
-    slice-aggregate-position-at-2
-    slice-aggregate-position-at-3
-    position-at-requires
+    slice-aggregate-column-position
+    slice-aggregate-column-position-2
+    slice-aggregate-column-position-3
+    column-position-requires
     returns-3
     slice-aggregate-sum
     slice-aggregate-sum-2

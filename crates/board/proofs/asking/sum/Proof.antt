@@ -8,7 +8,7 @@ use Rattle.jord.specs.Vec3.{ZERO}
 use Rattle.spherical.specs.Mean.{fold, plus}
 use Rattle.board.specs.Asking.{positions}
 use Rattle.board.proofs.Loops.{fold-on, fold-out}
-use Rattle.board.proofs.Parts.{nowhere, position-is}
+use Rattle.board.proofs.Columns.{nowhere, position-is}
 use Rattle.board.proofs.asking.sum.Statement.{statement}
 use Rattle.board.proofs.asking.sum.Tie as tie
 
@@ -22,8 +22,8 @@ abbrev μ-loop : tie.MeasureT-loop
 loop-holds : tie.Need-loop-holds Inv-loop μ-loop
 loop-holds c = search needs
 
-position-at-requires : tie.Need-position-at-requires Inv-loop μ-loop
-position-at-requires c κs = search needs
+column-position-requires : tie.Need-column-position-requires Inv-loop μ-loop
+column-position-requires c κs = search needs
 
 plus-requires : tie.Need-plus-requires Inv-loop μ-loop
 plus-requires c κs = search needs
@@ -37,7 +37,7 @@ loop-less c = search needs
 loop-again : tie.Need-loop-again Inv-loop μ-loop
 loop-again c = let at = c .before .before .before in
     let a = at .before .before .before .before .args in
-    let p = c .before .position-at in (
+    let p = c .before .column-position in (
       search needs,
       search needs,
       fold-on (a .n) (positions (a .xs .now) (a .ys .now) (a .zs .now)) (omega arith) (at .loop .i) plus ZERO (at .loop .s) (at .loop .inv .2) nowhere (p .result) (omega arith)
@@ -58,7 +58,7 @@ sum-spec =
     Inv-loop
     μ-loop
     loop-holds
-    position-at-requires
+    column-position-requires
     plus-requires
     add-i
     loop-less

@@ -1,7 +1,7 @@
 -- `answer_of` meets its contract. The questions of each call, in their order.
 use mathlib.Core.Path.{refl}
 use Rattle.board.specs.Board.{answer}
-use Rattle.board.specs.Change.{Answers}
+use Rattle.board.specs.Change.{RightAnswer}
 use borrow.Author.Needs.{needs}
 use Rattle.board.proofs.board.answer_of.Statement.{statement}
 use Rattle.board.proofs.board.answer_of.Tie as tie
@@ -67,23 +67,23 @@ ask-requires-5 : tie.Need-ask-requires-5
 ask-requires-5 c κs = search needs
 
 returns : tie.Need-returns
-unfolding Answers answer
+unfolding RightAnswer answer
 returns c = rw (c .ask2 .ensures, c .before .ask-fix .ensures, c .before .before .ask .ensures, c .before .before .before .room-asked .ensures, c .before .before .before .before .identity-asked .ensures, c .before .before .before .before .before .before .call .given .1) (λ l k ex en. rw (ex, en))
 
 returns-2 : tie.Need-returns-2
-unfolding Answers answer
+unfolding RightAnswer answer
 returns-2 c = rw (c .ask4 .ensures, c .before .ask3 .ensures, c .before .before .held-asked .ensures, c .before .before .before .identity-asked2 .ensures, c .before .before .before .before .before .call2 .given .1) (λ l k ex en. rw ex)
 
 returns-3 : tie.Need-returns-3
-unfolding Answers answer
+unfolding RightAnswer answer
 returns-3 c = rw (c .ask-fix2 .ensures, c .before .before .call3 .given .1) (λ l k ex en. refl)
 
 returns-4 : tie.Need-returns-4
-unfolding Answers answer
+unfolding RightAnswer answer
 returns-4 c = rw (c .ask-ends .ensures, c .before .before .call4 .given .1) (λ l k ex en. refl)
 
 returns-5 : tie.Need-returns-5
-unfolding Answers answer
+unfolding RightAnswer answer
 returns-5 c = rw (c .ask5 .ensures, c .before .solved .ensures, c .before .before .see .ensures, c .before .before .before .identity-asked3 .ensures, c .before .before .before .before .before .call5 .given .1) (λ l k ex en. rw ex)
 
 pub answer-of-spec : {M : Type 1} → statement M

@@ -2,6 +2,7 @@
 -- the plain board's targets.
 use native.Mathlib.Omega.{arith}
 use Prim.Native.Nat.{_<_}
+use mathlib.Core.Bool.{false≢true}
 use mathlib.Core.Logic.{inl, inr}
 use mathlib.Core.Path.{_≡_, refl, sym, subst, _∙_}
 use borrow.Author.Tests.{not-true, not-false}
@@ -37,7 +38,11 @@ returns c =
     let a = c .before .before .before .before .before .before .before .before .args in
     let s = sought-is (a .board .targets) _ _ _ _ (c .before .before .before .seek-in .ensures) (c .before .before .before .before .before .least .ensures) (c .before .before .before .before .name-of .ensures) in
     let k = answered-is (a .board) (a .call) _ _ _ (c .before .before .answer-of .ensures) (s .1) (s .2) in
-    (k, heard-refused (a .board) (a .call) _ k (not-true _ (sym (c .before .refuses .ensures) ∙ c .if1 .taken)))
+    record {
+      answer-is = k;
+      board-is = heard-refused (a .board) (a .call) _ k (not-true _ (sym (c .before .refuses .ensures) ∙ c .if1 .taken));
+      refused-keeps = λ e. refl;
+    }
 
 change-of-requires : tie.Need-change-of-requires
 change-of-requires c κs = tt
@@ -56,7 +61,7 @@ place-below c =
     let a = d .before .before .before .before .before .before .before .before .before .args in
     let k = d .before .before .before .before .seek-in .ensures in
     let s = sought-is (a .board .targets) _ _ _ _ k (d .before .before .before .before .before .before .least .ensures) (d .before .before .before .before .before .name-of .ensures) in
-    let w = within-is (a .board) (a .call) _ _ _ _ (k .long) (s .0) (s .1) (d .change-of .ensures) in
+    let w = within-is (a .board) (a .call) _ _ _ _ (k .length-is) (s .0) (s .1) (d .change-of .ensures) in
     let v = subst (λ (r : Change). Within r (atMost (a .board .targets .count))) (c .before .change .given .1) w in
     omega (arith, v, at-most-le (a .board .targets .count))
 
@@ -126,11 +131,15 @@ returns-2 c =
     let n = d .before .before .before .before .before .before .least .ensures in
     let s = sought-is (a .board .targets) _ _ _ _ k n (d .before .before .before .before .before .name-of .ensures) in
     let q = answered-is (a .board) (a .call) _ _ _ (d .before .before .before .answer-of .ensures) (s .1) (s .2) in
-    let yes' = not-false _ (sym (d .before .before .refuses .ensures) ∙ d .before .if1 .left) in (
-      q,
-      rw (c .total-after .ensures, c .before .before .track-after .ensures, c .before .before .before .own-after .ensures)
-          (changed-is (a .board) (a .call) _ _ _ _ (k .long) (s .0) (s .1) (d .change-of .ensures) _ _ q yes' (arms m .1) (c .before .count-after .ensures ∙ rw (arms m .0, n))),
-    )
+    let yes' = not-false _ (sym (d .before .before .refuses .ensures) ∙ d .before .if1 .left) in
+    record {
+      answer-is = q;
+      board-is =
+          rw (c .total-after .ensures, c .before .before .track-after .ensures, c .before .before .before .own-after .ensures)
+          (changed-is (a .board) (a .call) _ _ _ _ (k .length-is) (s .0) (s .1) (d .change-of .ensures) _ _ q yes' (arms m .1)
+          (c .before .count-after .ensures ∙ rw (arms m .0, n)));
+      refused-keeps = λ e. absurd (false≢true (sym e ∙ yes'));
+    }
 
 pub hear-spec : {M : Type 1} → statement M
 hear-spec =

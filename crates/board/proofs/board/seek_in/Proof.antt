@@ -37,14 +37,14 @@ returns c =
     let l = c .before .before .before .before .before .loop in
     let a = c .before .before .before .before .before .before .args in
     let s = entry-same (a .identity) (a .n) (a .t1) (l .i) (omega arith) (l .inv .3) (omega arith) (c .before .before .before .if1 .taken) (c .before .before .if2 .taken) in
-    record { long = l .inv .2; spot-is = s; found-is = sym (found-at (a .t1) (a .n) (l .inv .2) (l .inv .1) (a .identity) (l .i) (sym s)) }
+    record { length-is = l .inv .2; spot-is = s; found-is = sym (found-at (a .t1) (a .n) (l .inv .2) (l .inv .1) (a .identity) (l .i) (sym s)) }
 
 returns-2 : tie.Need-returns-2 Inv-loop μ-loop
 returns-2 c =
     let l = c .before .before .before .loop in
     let a = c .before .before .before .before .args in
     let s = entry-above (a .identity) (a .n) (a .t1) (l .i) (omega arith) (l .inv .3) (omega arith) (c .before .if1 .taken) (c .if2 .left) in
-    record { long = l .inv .2; spot-is = s; found-is = sym (found-none (a .t1) (a .n) (l .inv .2) (l .inv .1) (a .identity) (l .i) (sym s)) }
+    record { length-is = l .inv .2; spot-is = s; found-is = sym (found-none (a .t1) (a .n) (l .inv .2) (l .inv .1) (a .identity) (l .i) (sym s)) }
 
 add-i : tie.Need-add-i Inv-loop μ-loop
 add-i c = search needs
@@ -63,7 +63,7 @@ returns-3 c =
     let l = c .before .loop in
     let a = c .before .before .args in
     let s = entry-none (a .identity) (a .n) (a .t1) (l .i) (omega arith) (l .inv .3) (omega arith) in
-    record { long = l .inv .2; spot-is = s; found-is = sym (found-none (a .t1) (a .n) (l .inv .2) (l .inv .1) (a .identity) (l .i) (sym s)) }
+    record { length-is = l .inv .2; spot-is = s; found-is = sym (found-none (a .t1) (a .n) (l .inv .2) (l .inv .1) (a .identity) (l .i) (sym s)) }
 
 pub seek-in-spec : {M : Type 1} → statement M
 seek-in-spec =

@@ -4,7 +4,7 @@ use lib.Dec.{T}
 use mathlib.Core.Bool.{Bool, true, false}
 use lib.Ieee.{Float, binary64, rem, fits, toBits}
 use Rattle.float.specs.Bits.{partsOf}
-use Rattle.float.specs.declared.bits.Parts.{Parts}
+use Rattle.float.specs.declared.bits.Unpacked.{Unpacked}
 use borrow.Author.Needs.{needs}
 use Rattle.float.proofs.Pattern.{is-nan, not-nan, zero-by-zero}
 use Rattle.float.proofs.Fmod.{Divides, rem-nan-left, rem-nan-right, rem-of-infinity, rem-by-zero, rem-of-smaller, rem-of-larger, below-infinity, rem-parts, with-sign}
@@ -53,27 +53,27 @@ divides c =
 abbrev start : tie.After-sign-bit → tie.Start
 start c = c .before .before .before .before .before .before .before .before .before
 
-parts-of-requires : tie.Need-parts-of-requires
-parts-of-requires c κs = search needs
+unpack-requires : tie.Need-unpack-requires
+unpack-requires c κs = search needs
 
-parts-of-requires-2 : tie.Need-parts-of-requires-2
-parts-of-requires-2 c κs = search needs
+unpack-requires-2 : tie.Need-unpack-requires-2
+unpack-requires-2 c κs = search needs
 
-rem-of-parts-requires : tie.Need-rem-of-parts-requires
-rem-of-parts-requires c κs =
+rem-of-unpacked-requires : tie.Need-rem-of-unpacked-requires
+rem-of-unpacked-requires c κs =
     let d = divides (c .before .before) in
-    rw (c .parts-of2 .ensures, c .before .parts-of .ensures) (d .dividend, d .under, d .divisor, d .small, d .order)
+    rw (c .unpack2 .ensures, c .before .unpack .ensures) (d .dividend, d .under, d .divisor, d .small, d .order)
 
 sign-bit-requires : tie.Need-sign-bit-requires
 sign-bit-requires c κs = search needs
 
 -- the call's answer, from the parts that were handed over to the patterns' own
-of-magnitudes : (c : tie.After-sign-bit) → c .before .rem-of-parts .result ≡ rem-parts (partsOf (toBits binary64 (start c .args .x))) (partsOf (toBits binary64 (start c .args .y)))
+of-magnitudes : (c : tie.After-sign-bit) → c .before .rem-of-unpacked .result ≡ rem-parts (partsOf (toBits binary64 (start c .args .x))) (partsOf (toBits binary64 (start c .args .y)))
 of-magnitudes c =
     let d = c .before .before in
-    c .before .rem-of-parts .ensures ∙ ap (λ (p : Parts). rem-parts p (d .parts-of2 .result)) (d .before .parts-of .ensures) ∙ ap (rem-parts (partsOf (toBits binary64 (start c .args .x)))) (d .parts-of2 .ensures)
+    c .before .rem-of-unpacked .ensures ∙ ap (λ (p : Unpacked). rem-parts p (d .unpack2 .result)) (d .before .unpack .ensures) ∙ ap (rem-parts (partsOf (toBits binary64 (start c .args .x)))) (d .unpack2 .ensures)
 
-signed : (b : Bool) (c : tie.After-sign-bit) → c .sign-bit .result ≡ b → with-sign b (c .before .rem-of-parts .result) ≡ rem binary64 (start c .args .x) (start c .args .y)
+signed : (b : Bool) (c : tie.After-sign-bit) → c .sign-bit .result ≡ b → with-sign b (c .before .rem-of-unpacked .result) ≡ rem binary64 (start c .args .x) (start c .args .y)
 signed b c e =
     ap (with-sign b) (of-magnitudes c)
     ∙ ap (λ (s : Bool). with-sign s (rem-parts (partsOf (toBits binary64 (start c .args .x))) (partsOf (toBits binary64 (start c .args .y))))) (sym e ∙ c .sign-bit .ensures)
@@ -96,9 +96,9 @@ rem-spec =
     returns-3
     returns-4
     returns-5
-    parts-of-requires
-    parts-of-requires-2
-    rem-of-parts-requires
+    unpack-requires
+    unpack-requires-2
+    rem-of-unpacked-requires
     sign-bit-requires
     returns-6
     returns-7)

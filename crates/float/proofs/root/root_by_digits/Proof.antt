@@ -5,7 +5,7 @@ use lib.Pow.{pow-pos}
 use Rattle.float.specs.Root.{wholeRoot}
 use Rattle.float.proofs.WholeRoot.{root-unique, whole-root}
 use native.Mathlib.Omega.{arith}
-use Rattle.float.proofs.Digits.{Found, one, none, done}
+use Rattle.float.proofs.Digits.{Found, digit-one-found, digit-zero-found, digits-found-are-root}
 use Rattle.float.proofs.root.root_by_digits.Statement.{statement}
 use Rattle.float.proofs.root.root_by_digits.Tie as tie
 
@@ -37,19 +37,19 @@ loop-less : tie.Need-loop-less Inv-loop μ-loop
 loop-less c = omega arith
 
 loop-again : tie.Need-loop-again Inv-loop μ-loop
-loop-again c = one (c .before .before .loop .inv) (c .before .loop-test .taken) (c .if1 .taken)
+loop-again c = digit-one-found (c .before .before .loop .inv) (c .before .loop-test .taken) (c .if1 .taken)
 
 loop-less-2 : tie.Need-loop-less-2 Inv-loop μ-loop
 loop-less-2 c = omega arith
 
 loop-again-2 : tie.Need-loop-again-2 Inv-loop μ-loop
-loop-again-2 c = none (c .before .before .loop .inv) (c .before .loop-test .taken) (c .if1 .left)
+loop-again-2 c = digit-zero-found (c .before .before .loop .inv) (c .before .loop-test .taken) (c .if1 .left)
 
 returns : tie.Need-returns Inv-loop μ-loop
 returns c =
     let f = c .before .loop .inv in
     let n = c .before .before .args .m * 2 ^ 54 in
-    let b = done f (c .loop-test .left) in
+    let b = digits-found-are-root f (c .loop-test .left) in
     (root-unique n (c .before .loop .root) (wholeRoot n) (record { low = b .0; high = b .1 }) (whole-root n), first (f .power .0) (f .power .1) (f .within))
 
 pub root-by-digits-spec : {M : Type 1} → statement M

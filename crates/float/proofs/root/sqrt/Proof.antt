@@ -5,7 +5,7 @@ use lib.Dec.{T}
 use lib.Ieee.{binary64, toBits, fits}
 use Rattle.float.specs.Bits.{digits, place}
 use Rattle.float.specs.Root.{roundRoot}
-use Rattle.float.specs.declared.bits.Parts.{Parts}
+use Rattle.float.specs.declared.bits.Unpacked.{Unpacked}
 use Rattle.float.proofs.Pattern.{not-nan, zero-by-zero}
 use Rattle.float.proofs.Rooted.{Rooted, at-nan, at-zero, at-negative, at-infinity, left-over, rooted}
 use borrow.Author.Needs.{needs}
@@ -36,14 +36,14 @@ positive-root c =
     let s = c .before .before .before .before in
     rooted (s .args .x) (held s) (left-over (s .args .x) (c .before .before .before .if1 .left) (c .before .before .if2 .left) (c .before .if3 .left) (c .if4 .left))
 
-parts-of-requires : tie.Need-parts-of-requires
-parts-of-requires c κs = search needs
+unpack-requires : tie.Need-unpack-requires
+unpack-requires c κs = search needs
 
 root-of-requires : tie.Need-root-of-requires
-root-of-requires c κs = let r = positive-root (c .before) in rw (c .parts-of .ensures) (r .digits-pos, r .small, r .under)
+root-of-requires c κs = let r = positive-root (c .before) in rw (c .unpack .ensures) (r .digits-pos, r .small, r .under)
 
 returns-5 : tie.Need-returns-5
-returns-5 c = c .root-of .ensures ∙ ap (λ (p : Parts). roundRoot (p .digits * 2 ^ p .place * 2 ^ 1074)) (c .before .parts-of .ensures) ∙ sym (positive-root (c .before .before) .is)
+returns-5 c = c .root-of .ensures ∙ ap (λ (p : Unpacked). roundRoot (p .digits * 2 ^ p .place * 2 ^ 1074)) (c .before .unpack .ensures) ∙ sym (positive-root (c .before .before) .is)
 
 pub sqrt-spec : {M : Type 1} → statement M
 sqrt-spec =
@@ -54,6 +54,6 @@ sqrt-spec =
     returns-3
     float-to-bits-bits
     returns-4
-    parts-of-requires
+    unpack-requires
     root-of-requires
     returns-5)

@@ -3,8 +3,8 @@ use borrow.Author.Needs.{needs}
 use Rattle.frames.proofs.frame.fix_at.Statement.{statement}
 use Rattle.frames.proofs.frame.fix_at.Tie as tie
 
-position-at-requires : tie.Need-position-at-requires
-position-at-requires c κs = search needs
+coordinates-at-requires : tie.Need-coordinates-at-requires
+coordinates-at-requires c κs = search needs
 
 add-float-at : tie.Need-add-float-at
 add-float-at c = search needs
@@ -25,7 +25,7 @@ pub fix-at-spec : {M : Type 1} → statement M
 fix-at-spec =
     tie.close
     (tie.spec
-    position-at-requires
+    coordinates-at-requires
     add-float-at
     float-at-requires
     add-float-at-2

@@ -1,12 +1,12 @@
 -- A line longer than any frame is none, and is not looked through.
 use mathlib.Core.Path.{sym}
-use Rattle.frames.proofs.Lines.{long}
+use Rattle.frames.proofs.Lines.{long-is-no-frame}
 use borrow.Author.Needs.{needs}
 use Rattle.frames.proofs.frame.read.Statement.{statement}
 use Rattle.frames.proofs.frame.read.Tie as tie
 
 returns : tie.Need-returns
-returns c = sym (long _ (c .if1 .taken))
+returns c = sym (long-is-no-frame _ (c .if1 .taken))
 
 all-digits-requires : tie.Need-all-digits-requires
 all-digits-requires c κs = search needs

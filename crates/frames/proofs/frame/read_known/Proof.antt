@@ -6,7 +6,7 @@ use denote.Ref.{now}
 use Rattle.hex.specs.Hex.{allDigits, hexAt}
 use Rattle.hex.proofs.Read.{passes, fails, lows-known}
 use Rattle.frames.specs.Frame.{framed}
-use Rattle.frames.proofs.Lines.{short, no-digits, known, unknown}
+use Rattle.frames.proofs.Lines.{short, no-digits, known-kind-framed, unknown}
 use borrow.Author.Needs.{needs}
 use Rattle.frames.proofs.frame.read_known.Statement.{statement}
 use Rattle.frames.proofs.frame.read_known.Tie as tie
@@ -55,34 +55,34 @@ asked-requires-3 : tie.Need-asked-requires-3
 asked-requires-3 c κs = search needs
 
 returns-3 : tie.Need-returns-3
-returns-3 c = known _ _ 0 _ (digits-alone (c .before .before .before)) (kind-is (c .before .before)) (c .before .match .keys1) (c .fresh-of .ensures)
+returns-3 c = known-kind-framed _ _ 0 _ (digits-alone (c .before .before .before)) (kind-is (c .before .before)) (c .before .match .keys1) (c .fresh-of .ensures)
 
 returns-4 : tie.Need-returns-4
-returns-4 c = known _ _ 1 _ (digits-alone (c .before .before .before)) (kind-is (c .before .before)) (c .before .match .keys2) (c .report-of .ensures)
+returns-4 c = known-kind-framed _ _ 1 _ (digits-alone (c .before .before .before)) (kind-is (c .before .before)) (c .before .match .keys2) (c .report-of .ensures)
 
 returns-5 : tie.Need-returns-5
-returns-5 c = known _ _ 2 _ (digits-alone (c .before .before .before)) (kind-is (c .before .before)) (c .before .match .keys3) (c .withdraw-of .ensures)
+returns-5 c = known-kind-framed _ _ 2 _ (digits-alone (c .before .before .before)) (kind-is (c .before .before)) (c .before .match .keys3) (c .withdraw-of .ensures)
 
 returns-6 : tie.Need-returns-6
-returns-6 c = known _ _ 3 _ (digits-alone (c .before .before .before)) (kind-is (c .before .before)) (c .before .match .keys4) (c .own-ship-of .ensures)
+returns-6 c = known-kind-framed _ _ 3 _ (digits-alone (c .before .before .before)) (kind-is (c .before .before)) (c .before .match .keys4) (c .own-ship-of .ensures)
 
 returns-7 : tie.Need-returns-7
-returns-7 c = known _ _ 4 _ (digits-alone (c .before .before .before)) (kind-is (c .before .before)) (c .before .match .keys5) (c .track-of .ensures)
+returns-7 c = known-kind-framed _ _ 4 _ (digits-alone (c .before .before .before)) (kind-is (c .before .before)) (c .before .match .keys5) (c .track-of .ensures)
 
 returns-8 : tie.Need-returns-8
-returns-8 c = known _ _ 5 _ (digits-alone (c .before .before .before)) (kind-is (c .before .before)) (c .before .match .keys6) (c .solve-of .ensures)
+returns-8 c = known-kind-framed _ _ 5 _ (digits-alone (c .before .before .before)) (kind-is (c .before .before)) (c .before .match .keys6) (c .solve-of .ensures)
 
 returns-9 : tie.Need-returns-9
 unfolding framed
-returns-9 c = known _ _ 6 _ (digits-alone (c .before .before .before)) (kind-is (c .before .before)) (c .before .match .keys7) (c .asked .ensures)
+returns-9 c = known-kind-framed _ _ 6 _ (digits-alone (c .before .before .before)) (kind-is (c .before .before)) (c .before .match .keys7) (c .asked .ensures)
 
 returns-10 : tie.Need-returns-10
 unfolding framed
-returns-10 c = known _ _ 7 _ (digits-alone (c .before .before .before)) (kind-is (c .before .before)) (c .before .match .keys8) (c .asked2 .ensures)
+returns-10 c = known-kind-framed _ _ 7 _ (digits-alone (c .before .before .before)) (kind-is (c .before .before)) (c .before .match .keys8) (c .asked2 .ensures)
 
 returns-11 : tie.Need-returns-11
 unfolding framed
-returns-11 c = known _ _ 8 _ (digits-alone (c .before .before .before)) (kind-is (c .before .before)) (c .before .match .keys9) (c .asked3 .ensures)
+returns-11 c = known-kind-framed _ _ 8 _ (digits-alone (c .before .before .before)) (kind-is (c .before .before)) (c .before .match .keys9) (c .asked3 .ensures)
 
 returns-12 : tie.Need-returns-12
 returns-12 c =

@@ -6,7 +6,7 @@ use native.Mathlib.Omega.{arith}
 use lib.ListN.{length}
 use lib.Seq.{paste, paste-zero, paste-suc, length-paste}
 use Rattle.frames.specs.Line.{kept, least}
-use Rattle.frames.proofs.Spans.{least-is, kept-text}
+use Rattle.frames.proofs.SpansLine.{least-is, kept-text}
 use Rattle.frames.proofs.line.joined.Statement.{statement}
 use Rattle.frames.proofs.line.joined.Tie as tie
 
@@ -61,7 +61,7 @@ returns c =
     let all : a .n + l .i ≡ least (a .n + length (a .part .now)) = omega (arith, c .before .before .kept-of .ensures) in
     rw (l .inv .1)
     (record {
-      long = omega (arith, length-paste (a .line) (a .n) (a .part .now) (l .i) (omega arith) (omega arith));
+      length-is = omega (arith, length-paste (a .line) (a .n) (a .part .now) (l .i) (omega arith) (omega arith));
       text = kept-text (a .line) (a .n) (a .part .now) (l .i) (omega arith) all;
     })
 

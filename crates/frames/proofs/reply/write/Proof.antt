@@ -29,7 +29,7 @@ put-two-requires-3 c κs = omega (arith, c .before .before .before .before .befo
 put-line-requires : tie.Need-put-line-requires
 put-line-requires c κs =
     let w = c .before .before .before .put-two3 .ensures in
-    omega (arith, w .past, w .long, c .before .before .before .before .before .before .before .before .before .pre, sized _ _ (c .before .before .before .before .before .before .reply3 .given .1))
+    omega (arith, w .past, w .length-is, c .before .before .before .before .before .before .before .before .before .pre, sized _ _ (c .before .before .before .before .before .before .reply3 .given .1))
 
 enum-known-reply-4 : tie.Need-enum-known-reply-4
 enum-known-reply-4 c = search needs
@@ -40,7 +40,7 @@ put-two-requires-4 c κs = omega (arith, c .before .before .before .before .befo
 put-position-requires : tie.Need-put-position-requires
 put-position-requires c κs =
     let w = c .before .before .before .put-two4 .ensures in
-    omega (arith, w .past, w .long, c .before .before .before .before .before .before .before .before .before .pre, sized _ _ (c .before .before .before .before .before .before .reply4 .given .1))
+    omega (arith, w .past, w .length-is, c .before .before .before .before .before .before .before .before .before .pre, sized _ _ (c .before .before .before .before .before .before .reply4 .given .1))
 
 enum-known-reply-5 : tie.Need-enum-known-reply-5
 enum-known-reply-5 c = search needs

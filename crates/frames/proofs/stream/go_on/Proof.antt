@@ -46,11 +46,11 @@ returns c =
     going-on (a .s) _ _ v t (λ z h. (e .ensures .ends h, waits-room _ _ _ (sym (c .before .waits .ensures) ∙ c .if1 .taken) h))
 
 array-share-prefix-line : tie.Need-array-share-prefix-line
-array-share-prefix-line c = omega (arith, c .before .before .kept-of .ensures, least-fits (c .before .before .before .before .before .before .kept .result + c .before .before .before .before .before .end-of-line .result), c .before .before .before .joined .ensures .long)
+array-share-prefix-line c = omega (arith, c .before .before .kept-of .ensures, least-fits (c .before .before .before .before .before .before .kept .result + c .before .before .before .before .before .end-of-line .result), c .before .before .before .joined .ensures .length-is)
 
 slice-aggregate-read : tie.Need-slice-aggregate-read
 slice-aggregate-read c =
-    sym (length-take-le _ _ (omega (arith, c .before .before .before .kept-of .ensures, least-fits (c .before .before .before .before .before .before .before .kept .result + c .before .before .before .before .before .before .end-of-line .result), c .before .before .before .before .joined .ensures .long)))
+    sym (length-take-le _ _ (omega (arith, c .before .before .before .kept-of .ensures, least-fits (c .before .before .before .before .before .before .before .kept .result + c .before .before .before .before .before .before .end-of-line .result), c .before .before .before .before .joined .ensures .length-is)))
 
 read-requires : tie.Need-read-requires
 read-requires c κs = search needs

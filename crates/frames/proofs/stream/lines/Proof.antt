@@ -51,7 +51,7 @@ line-at-requires : tie.Need-line-at-requires Inv-loop μ-loop
 line-at-requires c κs = c .before .loop .inv .1 .within
 
 sub-waits : tie.Need-sub-waits Inv-loop μ-loop
-sub-waits c = let w = c .before .before .loop .inv .1 .answers .wrote in omega (arith, w .within, w .long)
+sub-waits c = let w = c .before .before .loop .inv .1 .answers .wrote in omega (arith, w .within, w .length-is)
 
 waits-requires : tie.Need-waits-requires Inv-loop μ-loop
 waits-requires c κs = tt
@@ -80,13 +80,13 @@ goes : (c : tie.Else1 Inv-loop μ-loop) → (c .before .before .line-at .result 
 goes c =
     let g = waits-not _ _ _ (sym (c .before .waits .ensures) ∙ c .if1 .left) in
     let w = c .before .before .before .before .loop .inv .1 .answers .wrote in
-    (g .0, omega (arith, g .1, w .within, w .long))
+    (g .0, omega (arith, g .1, w .within, w .length-is))
 
 enum-known-reply : tie.Need-enum-known-reply Inv-loop μ-loop
 enum-known-reply c = search needs
 
-put-line-requires : tie.Need-put-line-requires Inv-loop μ-loop
-put-line-requires c κs = goes (c .before .before .before .before .before .before .before .before) .1
+put-reply-line-requires : tie.Need-put-reply-line-requires Inv-loop μ-loop
+put-reply-line-requires c κs = goes (c .before .before .before .before .before .before .before .before) .1
 
 enum-known-kind : tie.Need-enum-known-kind Inv-loop μ-loop
 enum-known-kind c = search needs
@@ -112,8 +112,8 @@ mul-entries c = omega (arith, place-below c)
 array-set-from-entries : tie.Need-array-set-from-entries Inv-loop μ-loop
 array-set-from-entries c = place-below c
 
-put-line-requires-2 : tie.Need-put-line-requires-2 Inv-loop μ-loop
-put-line-requires-2 c κs = goes (c .before .before .before .before .before .before .before .before) .1
+put-reply-line-requires-2 : tie.Need-put-reply-line-requires-2 Inv-loop μ-loop
+put-reply-line-requires-2 c κs = goes (c .before .before .before .before .before .before .before .before) .1
 
 enum-known-kind-2 : tie.Need-enum-known-kind-2 Inv-loop μ-loop
 enum-known-kind-2 c = search needs
@@ -121,8 +121,8 @@ enum-known-kind-2 c = search needs
 bared-requires : tie.Need-bared-requires Inv-loop μ-loop
 bared-requires c κs = tt
 
-put-line-requires-3 : tie.Need-put-line-requires-3 Inv-loop μ-loop
-put-line-requires-3 c κs = goes (c .before .before .before .before .before .before .before .before .before) .1
+put-reply-line-requires-3 : tie.Need-put-reply-line-requires-3 Inv-loop μ-loop
+put-reply-line-requires-3 c κs = goes (c .before .before .before .before .before .before .before .before .before) .1
 
 enum-told : tie.Need-enum-told Inv-loop μ-loop
 enum-told c = search needs
@@ -207,7 +207,7 @@ kept-of-requires : tie.Need-kept-of-requires Inv-loop μ-loop
 kept-of-requires c κs = omega arith
 
 same-length : tie.Need-same-length Inv-loop μ-loop
-same-length c = c .before .before .before .before .before .before .before .loop .inv .1 .answers .wrote .long
+same-length c = c .before .before .before .before .before .before .before .loop .inv .1 .answers .wrote .length-is
 
 returns : tie.Need-returns Inv-loop μ-loop
 returns c =
@@ -224,7 +224,7 @@ returns c =
       | inl z ↦ let y : ⊥ = omega (arith, e .ensures .passes .from) in absurd y
       | inr z ↦
           let d = ends-same (a .xs .now) (e .ensures) (z .1 .ensures .ends-at) in
-          (e .ensures .ends h, omega (arith, waits-room _ _ _ (sym (z .2 .ensures) ∙ z .3 .taken) (omega arith), w .long, w .within))
+          (e .ensures .ends h, omega (arith, waits-room _ _ _ (sym (z .2 .ensures) ∙ z .3 .taken) (omega arith), w .length-is, w .within))
     ] in
     rw (c .before .session-of2 .ensures) (feeding (a .s) _ _ v t stops)
 
@@ -247,14 +247,14 @@ lines-spec =
     slice-aggregate-look
     look-requires
     enum-known-reply
-    put-line-requires
+    put-reply-line-requires
     enum-known-kind
     mul-entries
     array-set-from-entries
-    put-line-requires-2
+    put-reply-line-requires-2
     enum-known-kind-2
     bared-requires
-    put-line-requires-3
+    put-reply-line-requires-3
     enum-told
     session-of-requires
     answer-requires

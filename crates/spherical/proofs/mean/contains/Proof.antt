@@ -7,7 +7,7 @@ use lib.ListN.{length, drop}
 use borrow.Author.Needs.{needs}
 use Rattle.jord.specs.Positions.{eq}
 use Rattle.jord.specs.declared.positions.NVector.{NVector}
-use Rattle.spherical.specs.Mean.{any, positions, positionAt}
+use Rattle.spherical.specs.Mean.{any, positions, nthPosition}
 use Rattle.spherical.proofs.Positions.{any-found, any-passed, any-out}
 use Rattle.spherical.proofs.mean.contains.Statement.{statement}
 use Rattle.spherical.proofs.mean.contains.Tie as tie
@@ -25,16 +25,16 @@ found : tie.Need-returns Inv-loop μ-loop
 found c =
     let k = c .before .before .before .before in
     let a = k .before .before .args in
-    let e : is (a .a) (positionAt (a .cs .now) (k .loop .i)) ≡ true =
-    sym (ap (is (a .a)) (c .before .before .position-at .ensures)) ∙ sym (c .before .eq .ensures) ∙ c .if1 .taken in
+    let e : is (a .a) (nthPosition (a .cs .now) (k .loop .i)) ≡ true =
+    sym (ap (is (a .a)) (c .before .before .nth-position .ensures)) ∙ sym (c .before .eq .ensures) ∙ c .if1 .taken in
     sym (k .loop .inv .2 ∙ any-found (is (a .a)) (a .cs .now) (k .loop .i) (omega arith) e)
 
 loop-again : tie.Need-loop-again Inv-loop μ-loop
 loop-again c =
     let k = c .before .before .before .before in
     let a = k .before .before .args in
-    let e : is (a .a) (positionAt (a .cs .now) (k .loop .i)) ≡ false =
-    sym (ap (is (a .a)) (c .before .before .position-at .ensures)) ∙ sym (c .before .eq .ensures) ∙ c .if1 .left in
+    let e : is (a .a) (nthPosition (a .cs .now) (k .loop .i)) ≡ false =
+    sym (ap (is (a .a)) (c .before .before .nth-position .ensures)) ∙ sym (c .before .eq .ensures) ∙ c .if1 .left in
     (search needs, search needs, k .loop .inv .2 ∙ any-passed (is (a .a)) (a .cs .now) (k .loop .i) (omega arith) e)
 
 none : tie.Need-returns-2 Inv-loop μ-loop

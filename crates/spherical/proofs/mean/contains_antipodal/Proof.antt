@@ -9,7 +9,7 @@ use lib.Ieee.{Float}
 use borrow.Author.Needs.{needs}
 use Rattle.jord.specs.Positions.{antipode}
 use Rattle.jord.specs.declared.positions.NVector.{NVector}
-use Rattle.spherical.specs.Mean.{any, positions, positionAt, contains}
+use Rattle.spherical.specs.Mean.{any, positions, nthPosition, contains}
 use Rattle.spherical.proofs.Positions.{any-found, any-passed, any-out}
 use Rattle.spherical.proofs.mean.contains_antipodal.Statement.{statement}
 use Rattle.spherical.proofs.mean.contains_antipodal.Tie as tie
@@ -31,14 +31,14 @@ found : tie.Need-returns Inv-loop μ-loop
 found c =
     let k = c .before .before .before .before .before in
     let cs = k .before .before .args .cs .now in
-    let e = asked cs _ (positionAt cs (k .loop .i)) _ _ (c .before .before .before .position-at .ensures) (c .before .before .antipode .ensures) (c .before .contains .ensures) in
+    let e = asked cs _ (nthPosition cs (k .loop .i)) _ _ (c .before .before .before .nth-position .ensures) (c .before .before .antipode .ensures) (c .before .contains .ensures) in
     sym (k .loop .inv .2 ∙ any-found (opposed cs) cs (k .loop .i) (omega arith) (e ∙ c .if1 .taken))
 
 loop-again : tie.Need-loop-again Inv-loop μ-loop
 loop-again c =
     let k = c .before .before .before .before .before in
     let cs = k .before .before .args .cs .now in
-    let e = asked cs _ (positionAt cs (k .loop .i)) _ _ (c .before .before .before .position-at .ensures) (c .before .before .antipode .ensures) (c .before .contains .ensures) in
+    let e = asked cs _ (nthPosition cs (k .loop .i)) _ _ (c .before .before .before .nth-position .ensures) (c .before .before .antipode .ensures) (c .before .contains .ensures) in
     (search needs, search needs, k .loop .inv .2 ∙ any-passed (opposed cs) cs (k .loop .i) (omega arith) (e ∙ c .if1 .left))
 
 none : tie.Need-returns-2 Inv-loop μ-loop

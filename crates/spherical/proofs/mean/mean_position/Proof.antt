@@ -18,7 +18,7 @@ one c =
     let k = c .before .before in
     let cs = k .before .before .before .before .args .cs .now in
     let e = sym (k .before .contains-antipodal .ensures) ∙ k .if2 .left in
-    (ap Position (c .position-at .ensures) ∙ sym (mean-one cs (omega arith) (omega arith) e), refl)
+    (ap Position (c .nth-position .ensures) ∙ sym (mean-one cs (omega arith) (omega arith) e), refl)
 
 more : tie.Need-returns-4
 more c =

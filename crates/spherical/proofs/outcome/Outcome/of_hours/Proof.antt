@@ -4,7 +4,7 @@ use Rattle.spherical.proofs.outcome.Outcome.of_hours.Statement.{stateme
 use Rattle.spherical.proofs.outcome.Outcome.of_hours.Tie as tie
 
 accepted : tie.Need-returns
-accepted c = rw (c .before .before .before .w .given .1, ← c .before .from-hours .ensures) (c .of-span .ensures)
+accepted c = rw (c .before .before .before .w .given .1, ← c .before .from-hours .ensures) (c .of-converted .ensures)
 
 zero-derivative : tie.Need-returns-2
 zero-derivative c = rw (c .before .w2 .given .1)

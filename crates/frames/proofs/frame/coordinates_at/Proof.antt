@@ -1,7 +1,7 @@
 -- Three floats are a position.
 use borrow.Author.Needs.{needs}
-use Rattle.frames.proofs.frame.position_at.Statement.{statement}
-use Rattle.frames.proofs.frame.position_at.Tie as tie
+use Rattle.frames.proofs.frame.coordinates_at.Statement.{statement}
+use Rattle.frames.proofs.frame.coordinates_at.Tie as tie
 
 float-at-requires : tie.Need-float-at-requires
 float-at-requires c κs = search needs
@@ -21,8 +21,8 @@ float-at-requires-3 c κs = search needs
 returns : tie.Need-returns
 returns c = cc
 
-pub position-at-spec : {M : Type 1} → statement M
-position-at-spec =
+pub coordinates-at-spec : {M : Type 1} → statement M
+coordinates-at-spec =
     tie.close
     (tie.spec
     float-at-requires

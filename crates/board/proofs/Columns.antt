@@ -11,9 +11,9 @@ use Rattle.jord.specs.Vec3.{parts}
 use Rattle.jord.specs.Positions.{nvectorNew, asVec3}
 use Rattle.jord.specs.declared.positions.NVector.{NVector}
 use Rattle.spherical.specs.Mean.{any, contains}
-use Rattle.board.specs.declared.asking.Parts.{Parts}
+use Rattle.board.specs.declared.asking.Columns.{Columns}
 use Rattle.board.specs.declared.targets.Target.{Target}
-use Rattle.board.specs.Asking.{positionOf, xOf, yOf, zOf, partsOf, positions, positionAt}
+use Rattle.board.specs.Asking.{positionOf, xOf, yOf, zOf, columnsOf, positions, columnPosition}
 
 -- what a read past the end of the three lists gives
 abbrev pub nowhere : NVector
@@ -33,7 +33,7 @@ enough (x ∷ xs) (y ∷ ys) (z ∷ zs) =
     let e = enough xs ys zs in
     record { of-xs = omega arith; of-ys = omega arith; of-zs = omega arith }
 
-place-is : (xs ys zs : List Float) (i : ℕ) → i < length (positions xs ys zs) → positionAt xs ys zs i ≡ getD (positions xs ys zs) i nowhere
+place-is : (xs ys zs : List Float) (i : ℕ) → i < length (positions xs ys zs) → columnPosition xs ys zs i ≡ getD (positions xs ys zs) i nowhere
 place-is [] ys zs i h = absurd (omega arith)
 place-is (x ∷ xs) [] zs i h = absurd (omega arith)
 place-is (x ∷ xs) (y ∷ ys) [] i h = absurd (omega arith)
@@ -41,7 +41,7 @@ place-is (x ∷ xs) (y ∷ ys) (z ∷ zs) zero h = refl
 place-is (x ∷ xs) (y ∷ ys) (z ∷ zs) (suc i) h = place-is xs ys zs i (omega arith)
 
 -- what was read at i is the i-th of them
-pub position-is : (xs ys zs : List Float) (i : ℕ) (p : NVector) → i < length (positions xs ys zs) → p ≡ positionAt xs ys zs i → p ≡ getD (positions xs ys zs) i nowhere
+pub position-is : (xs ys zs : List Float) (i : ℕ) (p : NVector) → i < length (positions xs ys zs) → p ≡ columnPosition xs ys zs i → p ≡ getD (positions xs ys zs) i nowhere
 position-is xs ys zs i p h e = e ∙ place-is xs ys zs i h
 
 -- the positions of the parts of targets are theirs
@@ -49,7 +49,7 @@ positions-of : (ts : List Target) → positions (map xOf ts) (map yOf ts) (map z
 positions-of [] = refl
 positions-of (t ∷ ts) = ap (λ (l : List NVector). positionOf t ∷ l) (positions-of ts)
 
-pub positions-are : (ps : Parts) (ts : List Target) → ps ≡ partsOf ts → positions (ps .xs) (ps .ys) (ps .zs) ≡ map positionOf ts
+pub positions-are : (ps : Columns) (ts : List Target) → ps ≡ columnsOf ts → positions (ps .xs) (ps .ys) (ps .zs) ≡ map positionOf ts
 positions-are ps ts e = rw e (positions-of ts)
 
 pub take-map : {A B : Type 0} (f : A → B) (n : ℕ) (l : List A) → take n (map f l) ≡ map f (take n l)

@@ -1,8 +1,8 @@
 -- The reply, then a newline.
 use borrow.Author.Needs.{needs}
-use Rattle.frames.proofs.Turns.{put-below, put-line}
-use Rattle.frames.proofs.stream.put_line.Statement.{statement}
-use Rattle.frames.proofs.stream.put_line.Tie as tie
+use Rattle.frames.proofs.Turns.{put-below, put-reply-line}
+use Rattle.frames.proofs.stream.put_reply_line.Statement.{statement}
+use Rattle.frames.proofs.stream.put_reply_line.Tie as tie
 
 put-requires : tie.Need-put-requires
 put-requires c κs = search needs
@@ -19,7 +19,7 @@ same-length : tie.Need-same-length
 same-length c = search needs
 
 returns : tie.Need-returns
-returns c = put-line _ (c .before .before .put .ensures) (c .before .before .before .before .before .pre)
+returns c = put-reply-line _ (c .before .before .put .ensures) (c .before .before .before .before .before .pre)
 
-pub put-line-spec : {M : Type 1} → statement M
-put-line-spec = tie.close (tie.spec put-requires slice-write-out add-result same-length returns)
+pub put-reply-line-spec : {M : Type 1} → statement M
+put-reply-line-spec = tie.close (tie.spec put-requires slice-write-out add-result same-length returns)

@@ -1,8 +1,8 @@
--- `parts_of` meets its contract.
+-- `unpack` meets its contract.
 use borrow.Author.Needs.{needs}
 use borrow.Author.Tests.{ne-eqb}
-use Rattle.float.proofs.bits.parts_of.Statement.{statement}
-use Rattle.float.proofs.bits.parts_of.Tie as tie
+use Rattle.float.proofs.bits.unpack.Statement.{statement}
+use Rattle.float.proofs.bits.unpack.Tie as tie
 
 returns : tie.Need-returns
 returns c = simp (c .if1 .taken)
@@ -16,5 +16,5 @@ sub-t6 c = search needs
 returns-2 : tie.Need-returns-2
 returns-2 c = simp (ne-eqb _ _ (c .if1 .left))
 
-pub parts-of-spec : {M : Type 1} → statement M
-parts-of-spec = tie.close (tie.spec returns add-t4 sub-t6 returns-2)
+pub unpack-spec : {M : Type 1} → statement M
+unpack-spec = tie.close (tie.spec returns add-t4 sub-t6 returns-2)

@@ -1,9 +1,9 @@
--- `position_at` meets its contract. There are parts of each kind.
+-- `column_position` meets its contract. There are parts of each kind.
 use native.Mathlib.Omega.{arith}
 use borrow.Author.Needs.{needs}
-use Rattle.board.proofs.Parts.{enough}
-use Rattle.board.proofs.asking.position_at.Statement.{statement}
-use Rattle.board.proofs.asking.position_at.Tie as tie
+use Rattle.board.proofs.Columns.{enough}
+use Rattle.board.proofs.asking.column_position.Statement.{statement}
+use Rattle.board.proofs.asking.column_position.Tie as tie
 
 mul-t5 : tie.Need-mul-t5
 mul-t5 c =
@@ -41,8 +41,8 @@ new-requires c κs = search needs
 returns : tie.Need-returns
 returns c = search needs
 
-pub position-at-spec : {M : Type 1} → statement M
-position-at-spec =
+pub column-position-spec : {M : Type 1} → statement M
+column-position-spec =
     tie.close
     (tie.spec
     mul-t5

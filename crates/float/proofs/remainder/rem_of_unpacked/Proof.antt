@@ -1,12 +1,12 @@
--- `rem_of_parts` meets its contract.
+-- `rem_of_unpacked` meets its contract.
 use mathlib.Core.Path.{ap, _∙_, subst, sym}
 use Prim.Native.Nat.{ℕ, _<_, _^_}
 use native.Mathlib.Nat.{mod-lt, lt-of-lt-of-le, lt-of-le-of-lt, le-of-lt}
 use mathlib.Core.Bool.{false}
 use lib.Ieee.{odd}
 use borrow.Author.Needs.{needs}
-use Rattle.float.proofs.remainder.rem_of_parts.Statement.{statement}
-use Rattle.float.proofs.remainder.rem_of_parts.Tie as tie
+use Rattle.float.proofs.remainder.rem_of_unpacked.Statement.{statement}
+use Rattle.float.proofs.remainder.rem_of_unpacked.Tie as tie
 
 sub-shifted-rem : tie.Need-sub-shifted-rem
 sub-shifted-rem c = search needs
@@ -22,6 +22,6 @@ of-parts-requires c κs =
 returns : tie.Need-returns
 returns c = c .of-parts .ensures ∙ ap (λ (n : ℕ). odd 53 false n (c .before .before .before .args .b .place) 1074) (c .before .shifted-rem .ensures)
 
-pub rem-of-parts-spec : {M : Type 1} → statement M
-rem-of-parts-spec =
+pub rem-of-unpacked-spec : {M : Type 1} → statement M
+rem-of-unpacked-spec =
     tie.close (tie.spec sub-shifted-rem shifted-rem-requires of-parts-requires returns)

@@ -1,4 +1,4 @@
--- `parts_of` lays the parts of the positions over zeros, one by one.
+-- `columns_of` lays the parts of the positions over zeros, one by one.
 use Prim.Native.Nat.{ℕ, _+_, _-_, _≤_, _<_}
 use native.Mathlib.Omega.{arith}
 use mathlib.Core.Path.{_≡_, sym, ap, _∙_}
@@ -12,8 +12,8 @@ use Rattle.jord.specs.declared.vec3.Vec3.{Vec3}
 use Rattle.board.specs.Asking.{vectorOf}
 use Rattle.board.specs.declared.targets.Target.{Target}
 use Rattle.board.proofs.Arrays.{absent, length-map, laid, laid-all}
-use Rattle.board.proofs.asking.parts_of.Statement.{statement}
-use Rattle.board.proofs.asking.parts_of.Tie as tie
+use Rattle.board.proofs.asking.columns_of.Statement.{statement}
+use Rattle.board.proofs.asking.columns_of.Tie as tie
 use Rattle.board.specs.Targets.{mostTargets}
 
 -- the first i numbers are those parts
@@ -86,8 +86,8 @@ returns c =
     let all = laid-out (at .before .args .t1) (omega arith) (at .loop .i) (omega arith) in
     (cc (all (λ v. v .x) _ (at .loop .inv .2), all (λ v. v .y) _ (at .loop .inv .3), all (λ v. v .z) _ (at .loop .inv .4)), search needs)
 
-pub parts-of-spec : {M : Type 1} → statement M
-parts-of-spec =
+pub columns-of-spec : {M : Type 1} → statement M
+columns-of-spec =
     tie.close
     (tie.spec
     Inv-loop

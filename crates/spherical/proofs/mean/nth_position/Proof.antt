@@ -1,13 +1,13 @@
--- `position_at` meets its contract.
+-- `nth_position` meets its contract.
 use borrow.Author.Needs.{needs}
-use Rattle.spherical.proofs.mean.position_at.Statement.{statement}
-use Rattle.spherical.proofs.mean.position_at.Tie as tie
+use Rattle.spherical.proofs.mean.nth_position.Statement.{statement}
+use Rattle.spherical.proofs.mean.nth_position.Tie as tie
 
 returns : tie.Need-returns
 returns c = rw (c .new2 .ensures, c .before .new .ensures)
 
-pub position-at-spec : {M : Type 1} → statement M
-position-at-spec =
+pub nth-position-spec : {M : Type 1} → statement M
+nth-position-spec =
     tie.close
     (tie.spec
     (λ c. search needs)
