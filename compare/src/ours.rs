@@ -40,19 +40,19 @@ exports! {
 }
 
 pub fn from_seconds(t: f64) -> Outcome {
-    stored(t, store_seconds)
+    stored(t, |lent| store_seconds(t, lent))
 }
 
 pub fn from_hours(h: f64) -> Outcome {
-    stored(h, store_hours)
+    stored(h, |lent| store_hours(h, lent))
 }
 
 /// The number returned and the nanoseconds stored; of a refusal, which leaves the number lent to it
 /// as it was, the bits that are not as they were.
-fn stored(time: f64, store: impl Fn(f64, &mut u64) -> u8) -> Outcome {
+fn stored(time: f64, store: impl Fn(&mut u64) -> u8) -> Outcome {
     // It varies with the input and is never 0, so nothing that is stored can be taken for it.
     let lent = time.to_bits().rotate_left(29) | 1;
     let mut nanoseconds = lent;
-    let number = store(time, &mut nanoseconds);
+    let number = store(&mut nanoseconds);
     Outcome { number, nanoseconds: if number == 0 { nanoseconds } else { nanoseconds ^ lent } }
 }

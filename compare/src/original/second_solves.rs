@@ -3,13 +3,17 @@
 use super::again::{Method, NUDGE, Second, Tries};
 use super::chases::{self, COLUMNS, Ends};
 use super::ends::{End, Ended, KINDS, Kind, NAMES, WALKS, row};
+use super::smallest::call;
 use super::tables::{self, Rows, seconds};
 use crate::inputs::scenes::{Scene, angle};
 use std::array;
 
 const FASTER_TARGET: Method = Method::Nudges(|scene, by| scene.target.speed += by, 8);
-const IN_TURN: Method = Method::Clocks(&[256.0, 4096.0, 65536.0, 1048576.0]);
-const CLOCK: Method = Method::Clocks(&[1024.0]);
+const SPHERES: [f64; 4] = [256.0, 4096.0, 65536.0, 1048576.0];
+const IN_TURN: Method = Method::Clocks(&SPHERES);
+/// Seconds: eight days are near.
+pub const NEAR: f64 = 8.0 * 86_400.0;
+const CLOCK: Method = Method::Clocks(&[256.0]);
 
 /// Of walks that swing; what changes the own ship comes last, for the longest time has none.
 const SWINGING: [Method; 5] = [
@@ -28,8 +32,8 @@ const CLOCKS: [Method; 9] = [
     Method::Clocks(&[1.0]),
     Method::Clocks(&[16.0]),
     Method::Clocks(&[64.0]),
-    Method::Clocks(&[256.0]),
     CLOCK,
+    Method::Clocks(&[1024.0]),
     Method::Clocks(&[4096.0]),
     Method::Clocks(&[16384.0]),
     Method::Clocks(&[65536.0]),
@@ -47,11 +51,11 @@ impl Walks {
         Walks { methods, rows: array::from_fn(|_| vec![Tries::default(); methods.len()]) }
     }
 
-    /// Solves a chase by each method; what the first one finds.
-    fn meet(&mut self, kind: &Kind, scene: &Scene, row: usize, first: f64) -> Option<Second> {
+    /// Solves a chase by each method; what they find.
+    fn meet(&mut self, kind: &Kind, scene: &Scene, row: usize, first: f64) -> Vec<Option<Second>> {
         let solved: Vec<_> = self.methods.iter().map(|way| way.solve(kind, scene, first)).collect();
         self.rows[row].iter_mut().zip(&solved).for_each(|(tries, way)| tries.meet(way, first));
-        solved.into_iter().next()?
+        solved
     }
 
     fn print(&self, title: &str, columns: &str, cells: impl Fn(&[Tries]) -> Vec<String>) {
@@ -111,6 +115,8 @@ pub struct SecondSolves {
     found: Walks,
     all: Walks,
     law: Law,
+    /// Inputs of walks that swing near a meeting, by how many spheres they need; last, more.
+    needing: [Option<String>; SPHERES.len() + 1],
     /// Chases whose own ship is faster, by how long the meeting can take at most.
     latest: Rows<Ends>,
     late: Walks,
@@ -127,6 +133,7 @@ impl SecondSolves {
             found: Walks::new(&FOUND),
             all: Walks::new(&CLOCKS),
             law,
+            needing: [const { None }; SPHERES.len() + 1],
             latest: [[0; KINDS]; NAMES.len()],
             late: Walks::new(&LOST),
         };
@@ -144,9 +151,8 @@ impl SecondSolves {
         self.all.meet(kind, scene, row, first);
         match ended.now {
             End::Closed => {
-                let second = self.swinging.meet(kind, scene, row, first);
-                let rights = second.filter(|second| second.is_first);
-                rights.iter().for_each(|second| self.law.meet(scene, second, first));
+                let solved = self.swinging.meet(kind, scene, row, first);
+                self.meet_swinging(scene, first, &solved);
                 self.clocks.meet(kind, scene, row, first);
             }
             End::Closing | End::Astray => drop(self.lost.meet(kind, scene, row, first)),
@@ -154,6 +160,17 @@ impl SecondSolves {
             _ => (),
         }
         self.meet_latest(scene, ended.now, first);
+    }
+
+    /// Holds the nudges to their law, and keeps an input for each number of spheres needed.
+    fn meet_swinging(&mut self, scene: &Scene, first: f64, solved: &[Option<Second>]) {
+        let [nudged, in_turn, ..] = solved else { return };
+        let rights = nudged.iter().filter(|second| second.is_first);
+        rights.for_each(|second| self.law.meet(scene, second, first));
+        let spheres = in_turn.as_ref().map_or(SPHERES.len() + 1, |second| second.solves);
+        if first < NEAR && self.needing[spheres - 1].is_none() {
+            self.needing[spheres - 1] = Some(call(self.kind, scene));
+        }
     }
 
     /// The gap closes at least by the difference of the speeds.
@@ -215,6 +232,11 @@ impl SecondSolves {
              60 s, greatest s",
             |row| in_turn(&row[1]),
         );
+        for (spheres, input) in (1..).zip(&self.needing) {
+            if let Some(input) = input {
+                println!("\nThe first that needs {spheres}, within eight days:\n{input}");
+            }
+        }
         let clocks = "16, 64, 256, 1024, 4096, 16384, 65536, 1048576";
         self.clocks.print(
             &format!("`{name}`, 13 that swings: found and the first, the radius over"),
@@ -231,9 +253,9 @@ impl SecondSolves {
     fn print_others(&self) {
         let name = self.kind.name;
         self.found.print(
-            &format!("`{name}`, found and the first: one nudge, then the radius over 1024"),
+            &format!("`{name}`, found and the first: one nudge, then the radius over 256"),
             "to the meeting, walks, not found, first, over 0.4 s, over 1 s, over 60 s, greatest \
-             s, 1024: not found, first, over 0.4 s, over 1 s, over 60 s, greatest s",
+             s, 256: not found, first, over 0.4 s, over 1 s, over 60 s, greatest s",
             |row| {
                 let cells = |way: &Tries| [vec![way.without(1), way.first()], way.apart()].concat();
                 row.iter().flat_map(cells).collect()

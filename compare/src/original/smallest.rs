@@ -4,6 +4,7 @@
 use super::again::{faster, faster_target, found_time};
 use super::ends::{End, Ended, Kind, RULES, WALKS, ended, last_time};
 use super::meetings::Pursuit;
+use super::second_solves::NEAR;
 use crate::answer::{Answer, Walk};
 use crate::inputs::scenes::{EARTH, Scene, Ship};
 use crate::inputs::vectors::at;
@@ -13,12 +14,11 @@ use std::f64::consts::PI;
 
 /// Steps of a walk that are shown.
 const SHOWN: usize = 6;
-/// Of second solves: the faster clock, the nudges at most, and the seconds that are far off.
-const CLOCK: f64 = 1024.0;
+/// Of second solves: the faster clocks, the nudges at most, and the seconds that are far off.
+const CLOCK: f64 = 256.0;
+const CLOCKS: [f64; 3] = [256.0, 4096.0, 65536.0];
 const NUDGES: usize = 8;
 const FAR: f64 = 0.4;
-/// Seconds that are near.
-const NEAR: f64 = 8.0 * 86_400.0;
 
 /// Where the own ship lies at the origin and the target so many degrees away, nearest first.
 struct Family {
@@ -33,10 +33,12 @@ const OWN_FASTER: &[[u32; 2]] =
     &[[2, 1], [3, 1], [4, 1], [5, 1], [6, 1], [7, 1], [8, 1], [9, 1], [10, 1]];
 const TARGET_FASTER: &[[u32; 2]] =
     &[[1, 2], [1, 3], [1, 4], [1, 5], [1, 6], [1, 7], [1, 8], [1, 9], [1, 10]];
+const MUCH_ALIKE: &[[u32; 2]] =
+    &[[10, 9], [9, 10], [10, 10], [15, 14], [14, 15], [15, 15], [20, 19], [19, 20], [20, 20]];
 const WHOLE: Family = Family {
     degrees: |count| count as f64,
     own_courses: &[90],
-    speeds: &[OWN_FASTER, TARGET_FASTER],
+    speeds: &[OWN_FASTER, TARGET_FASTER, MUCH_ALIKE],
 };
 const THOUSANDTHS: Family = Family { degrees: |count| count as f64 / 1000.0, ..WHOLE };
 /// Both courses count, and both ships are fast.
@@ -57,7 +59,6 @@ pub fn show_all() {
     show(longest, "swings", is(End::Closed));
     show(longest, "stands still at a greatest speed", is(End::Opposite));
     show(longest, "stands still behind us", is(End::Negative));
-    let is_near = |ended: &Ended| ended.first.is_some_and(|first| first < NEAR);
     show(approach, "is behind us, a nearest moment within eight days", |ended| {
         ended.now == End::Negative && is_near(ended)
     });
@@ -101,49 +102,55 @@ fn print_apart(scene: &Scene, seconds: f64) {
 
 /// What stronger words about a faster target would have to be true of.
 fn show_nudges(kind: &Kind) {
-    let nudged = |scene: &Scene| vec![faster_target(scene, 1)];
-    show_second(
-        kind,
-        "swings, and is found far off after a nudge",
-        &WHOLE,
-        nudged,
-        |ended, times| ended.now == End::Closed && is_far(ended, times),
-    );
-    show_second(kind, "is found, and not after a nudge", &WHOLE, nudged, |ended, times| {
-        ended.now == End::First && times == [None]
+    let once = |scene: &Scene| vec![faster_target(scene, 1)];
+    let often = |scene: &Scene| (1..=NUDGES).map(|nudges| faster_target(scene, nudges)).collect();
+    show_second(kind, "swings, and is far off after a nudge", &WHOLE, once, |ended, times| {
+        ended.now == End::Closed && is_far(ended, times)
     });
-    show_second(kind, "is found, and far off after a nudge", &WHOLE, nudged, |ended, times| {
+    show_second(kind, "is found, and not after a nudge", &WHOLE, once, |ended, times| {
+        ended.now == End::First && is_refused(times)
+    });
+    show_second(kind, "is found, and far off after a nudge", &WHOLE, once, |ended, times| {
         ended.now == End::First && is_far(ended, times)
     });
-    let all = |scene: &Scene| (1..=NUDGES).map(|nudges| faster_target(scene, nudges)).collect();
-    show_second(kind, "swings, and after eight nudges too", &WHOLE, all, |ended, times| {
-        ended.now == End::Closed && times.iter().all(Option::is_none)
+    show_second(kind, "swings, and after eight nudges too", &WHOLE, often, |ended, times| {
+        ended.now == End::Closed && is_refused(times)
     });
 }
 
-/// The same of a faster clock; a meeting may be nearer than its first step.
+/// The same of faster clocks; a meeting may be nearer than their first step.
 fn show_clocks(kind: &Kind) {
-    let clocked = |scene: &Scene| vec![faster(scene, CLOCK)];
-    show_second(kind, "swings, and is found by a faster clock", &WHOLE, clocked, |ended, times| {
-        ended.now == End::Closed && times != [None]
+    let once = |scene: &Scene| vec![faster(scene, CLOCK)];
+    let often = |scene: &Scene| CLOCKS.map(|clock| faster(scene, clock)).to_vec();
+    show_second(kind, "swings, and is found by a faster clock", &WHOLE, once, |ended, times| {
+        ended.now == End::Closed && !is_refused(times)
     });
-    show_second(kind, "swings, and by a faster clock too", &WHOLE, clocked, |ended, times| {
-        ended.now == End::Closed && times == [None]
+    show_second(kind, "swings near, and by a faster clock too", &WHOLE, once, |ended, times| {
+        ended.now == End::Closed && is_near(ended) && is_refused(times)
     });
-    show_second(
-        kind,
-        "is found, and not by a faster clock",
-        &THOUSANDTHS,
-        clocked,
-        |ended, times| ended.now == End::First && times == [None],
-    );
-    show_second(
-        kind,
-        "is found, and later by a faster clock",
-        &THOUSANDTHS,
-        clocked,
-        |ended, times| ended.now == End::First && is_far(ended, times),
-    );
+    show_second(kind, "swings near, and by all clocks too", &WHOLE, often, |ended, times| {
+        ended.now == End::Closed && is_near(ended) && is_refused(times)
+    });
+    show_second(kind, "swings, and by all clocks too", &WHOLE, often, |ended, times| {
+        ended.now == End::Closed && is_refused(times)
+    });
+    show_second(kind, "is not found by a faster clock", &THOUSANDTHS, once, |ended, times| {
+        ended.now == End::First && is_refused(times)
+    });
+    show_second(kind, "is far off by a faster clock", &THOUSANDTHS, once, |ended, times| {
+        ended.now == End::First && is_far(ended, times)
+    });
+    show_second(kind, "swings, far off by a faster clock", &THOUSANDTHS, once, |ended, times| {
+        ended.now == End::Closed && is_far(ended, times)
+    });
+}
+
+fn is_refused(times: &[Option<f64>]) -> bool {
+    times.iter().all(Option::is_none)
+}
+
+fn is_near(ended: &Ended) -> bool {
+    ended.first.is_some_and(|first| first < NEAR)
 }
 
 fn is_far(ended: &Ended, times: &[Option<f64>]) -> bool {
