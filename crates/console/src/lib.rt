@@ -27,8 +27,7 @@ pub fn way_of(got: isize) -> Way
 // An output that nobody reads any more ends a program and is no fault: nothing is said of it.
 pub fn tell(way: Way, reading: &[u8], writing: &[u8]) {
     match way {
-        Way::On => {}
-        Way::Ended => {}
+        Way::On | Way::Ended => {}
         Way::ReadFailed => {
             os::fail(reading);
         }

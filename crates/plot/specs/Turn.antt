@@ -13,6 +13,7 @@ use Rattle.frames.specs.Stream.{view, fedState}
 use Rattle.io.specs.Counts.{clamped}
 use Rattle.plot.specs.declared.Turned.{Turned}
 
+-- a stream, and how to go on
 abbrev pub turned : Stream → Way → Turned
 turned s w = record { stream = s; way = w }
 
