@@ -151,7 +151,7 @@ module _ (b : Plain) (i : ℕ) (fit : Fit b) where
       ∙ cond-same (eqb i j) (reportOf (find i (b .targets)))
 
   outcome-report : (c : Call) (a : Answer) → reportOf (find i (outcome b c a .targets)) ≡ hearReport i c a (reportOf (find i (b .targets)))
-  unfolding outcome hearReport accepts
+  unfolding outcome hearReport
   outcome-report c Done = accepted-report c Done
   outcome-report c (Solved l) = accepted-report c (Solved l)
   outcome-report c (Refused r) = refl
@@ -171,7 +171,7 @@ module _ (b : Plain) (i : ℕ) (fit : Fit b) where
       line-lined a (find j (b .targets)) (λ l q. solved-held (b .radius) (identityAsked j) (b .own) (b .track) (find j (b .targets)) l (e ∙ q)))
 
   outcome-line : (c : Call) (a : Answer) → answer b c ≡ a → lineOf (find i (outcome b c a .targets)) ≡ hearLine i c a (lineOf (find i (b .targets)))
-  unfolding outcome hearLine accepts
+  unfolding outcome hearLine
   outcome-line c Done e = accepted-line c Done e
   outcome-line c (Solved l) e = accepted-line c (Solved l) e
   outcome-line c (Refused r) e = refl

@@ -60,7 +60,7 @@ positions (x ∷ xs) [] zs = []
 positions (x ∷ xs) (y ∷ ys) [] = []
 positions (x ∷ xs) (y ∷ ys) (z ∷ zs) = nvectorNew (parts x y z) ∷ positions xs ys zs
 
--- the i-th of them, where there are as many
+-- the i-th position of three lists of parts, where there are as many
 abbrev pub columnPosition : List Float → List Float → List Float → ℕ → NVector
 columnPosition xs ys zs i = nvectorNew (parts (getD xs i nan) (getD ys i nan) (getD zs i nan))
 

@@ -34,7 +34,7 @@ pub record CountsFit (l : Line) : Type 0 where
   pub meeting : CountFits (l .meeting)
   pub longest : CountFits (l .longest)
 
--- so it is of the line in an answer, if there is one
+-- each step count of the line in an answer, if there is one, is from 1 to 50
 abbrev pub AnswerFits : Answer → Type 0
 AnswerFits Done = Unit {0}
 AnswerFits (Solved l) = CountsFit l
@@ -44,7 +44,7 @@ abbrev pub AnswersFit : List Answer → Type 0
 AnswersFit [] = Unit {0}
 AnswersFit (a ∷ rest) = AnswerFits a × AnswersFit rest
 
--- and of a target's line, if it has one
+-- each step count of a target's line, if it has one, is from 1 to 50
 abbrev pub LineFits : Lined → Type 0
 LineFits Bare = Unit {0}
 LineFits (With l) = CountsFit l

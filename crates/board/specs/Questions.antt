@@ -35,7 +35,7 @@ abbrev pub ask : Said → Answer → Answer
 ask Yes a = a
 ask (No r) a = Refused r
 
--- yes where it is so
+-- yes where the truth value is true, else no with this refusal
 abbrev pub unless : Bool → Refusal → Said
 unless true r = Yes
 unless false r = No r

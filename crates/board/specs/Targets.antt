@@ -78,7 +78,7 @@ unfoldable pub spotIn : ℕ → ℕ → List ℕ → Spot
 spotIn i x [] = Before i
 spotIn i x (k ∷ l) = cond (ltb k x) (spotIn (suc i) x l) (cond (eqb x k) (At i) (Before i))
 
--- the same among targets
+-- where an identity stands among targets, or before which place it would; i stand before the list
 unfoldable pub spotFrom : ℕ → ℕ → List Target → Spot
 spotFrom i x l = spotIn i x (map identityOf l)
 

@@ -47,7 +47,7 @@ impl Choice {
     }
 }
 
-// The least meeting time so far.
+// The target with the least found meeting time, in nanoseconds, of those looked at so far, or none.
 enum Best {
     Missing,
     At { identity: u16, time: u64 },
@@ -224,7 +224,7 @@ fn soonest(entries: [Target; MOST_TARGETS], n: usize) -> Best
     b
 }
 
-// The lesser of a meeting time and that of a target, if it has one.
+// The best so far, or target t where its line has a found meeting time that is less.
 fn better(b: Best, t: Target) -> Best
     ensures { λ r. ⌜ r ≡ spec.better b t ⌝ }
 {
@@ -246,7 +246,7 @@ fn better(b: Best, t: Target) -> Best
     }
 }
 
-// The lesser of two meeting times.
+// The best so far, or this identity where its meeting time in nanoseconds is less.
 fn sooner(b: Best, identity: u16, time: u64) -> Best
     ensures { λ r. ⌜ r ≡ spec.sooner b identity time ⌝ }
 {

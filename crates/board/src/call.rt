@@ -34,27 +34,27 @@ pub enum Call {
 
 // Why a call is refused: the question that was answered by no.
 pub enum Refusal {
-    // The radius is finite and above zero.
+    // 2: the radius is not finite and above zero.
     RadiusNotPositive,
-    // The identity is other than 0.
+    // 3: the identity is 0.
     IdentityZero,
-    // All numbers handed over are finite.
+    // 4: a number handed over is a NaN or infinite.
     NotFinite,
-    // Each position has the length one.
+    // 5: the squared length of a position is not within 2^-40 of one.
     NotUnit,
-    // The speed is zero or more.
+    // 6: the speed is below zero.
     SpeedNegative,
-    // The track's ends are a great circle.
+    // 7: the track's ends are equal or antipodes, so no great circle.
     NoGreatCircle,
-    // The board holds this identity.
+    // 8: the board does not hold this identity.
     NotHeld,
-    // The identity is held, or fewer than 64 are held.
+    // 9: the identity is not held, and 64 others are.
     BoardFull,
-    // An own ship has been set.
+    // 10: no own ship has been set.
     NoOwnShip,
-    // A track has been set.
+    // 11: no track has been set.
     NoTrack,
-    // Some target's line has a found meeting time.
+    // 19: no target's line has a found meeting time.
     NoMeeting,
 }
 

@@ -35,13 +35,13 @@ pub struct Setting {
 
 // What a glance tells of a call.
 pub enum Hint {
-    // Its answer, and the board stays as it was.
+    // The call has this answer, and the board stays as it was.
     Stays(Answer),
-    // It is done, and this target takes the place of entry p.
+    // The call is done, and this target takes the place of entry p.
     Puts(usize, Target),
-    // It is done, every line is taken away, and this is the setting.
+    // The call is done, every line is taken away, and this is the setting after it.
     Sweeps(Setting),
-    // Nothing: the entries have to be looked at.
+    // A glance tells nothing of the call: the entries have to be looked at.
     Unclear,
 }
 

@@ -14,7 +14,7 @@ use jord::vehicle::Vehicle;
 // The room of a board.
 pub const MOST_TARGETS: usize = 64;
 
-// The last place of that room.
+// The last of a board's 64 places.
 const LAST: usize = MOST_TARGETS - 1;
 
 // A line, or none.
@@ -61,7 +61,7 @@ pub struct Sought {
 
 // What a call does to the targets.
 pub enum Change {
-    // Nothing.
+    // The targets stay as they are.
     Stays,
     // This target takes the place of entry p.
     Stores(usize, Target),
@@ -142,7 +142,7 @@ pub fn seek(ids: &[u16], count: usize, identity: u16) -> Spot
     Spot::Before(i)
 }
 
-// t in place p, and what stood there and after it one place on. The last falls off.
+// The entries with t in place p, those from p on one place later and the last dropped; as they were where p is 64 or more.
 pub fn inserted(entries: [Target; MOST_TARGETS], p: usize, t: Target) -> [Target; MOST_TARGETS]
     ensures { λ r. ⌜ r ≡ take spec.mostTargets (take p entries ++ t ∷ drop p entries) ⌝ }
 {
@@ -159,7 +159,7 @@ pub fn inserted(entries: [Target; MOST_TARGETS], p: usize, t: Target) -> [Target
     out
 }
 
-// Without what stood in place p, and what stood after it one place back. The last stands twice.
+// The entries without the one in place p, those after it one place earlier, the last place as it was; all as they were where p is 64 or more.
 pub fn closed(entries: [Target; MOST_TARGETS], p: usize) -> [Target; MOST_TARGETS]
     ensures { λ r. ⌜ r ≡ take spec.mostTargets ((take p entries ++ drop (p + 1) entries) ++ drop (spec.mostTargets - 1) entries) ⌝ }
 {

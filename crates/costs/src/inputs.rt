@@ -8,7 +8,7 @@ use board::targets::MOST_TARGETS;
 pub const HELD: u64 = MOST_TARGETS as u64;
 
 // One of so many identities, which do not come in their order.
-pub fn identity(turn: u64) -> u16 {
+pub(crate) fn identity(turn: u64) -> u16 {
     (turn % HELD * 40503 % 65521 + 1) as u16
 }
 
@@ -20,7 +20,7 @@ fn part(turn: u64, of: u64) -> f64
 }
 
 // A position: the point of the unit sphere that is seen at (u, v) from its south pole, none of them opposite to another.
-pub fn coordinates(turn: u64) -> Coordinates {
+pub(crate) fn coordinates(turn: u64) -> Coordinates {
     let u = part(turn, 1009);
     let v = part(turn, 997);
     let s = u * u + v * v;
@@ -33,7 +33,7 @@ pub fn coordinates(turn: u64) -> Coordinates {
 }
 
 // A fix: any bearing, 1 to 11 metres a second.
-pub fn fix(turn: u64) -> Fix {
+pub(crate) fn fix(turn: u64) -> Fix {
     Fix {
         position: coordinates(turn),
         bearing: 6.0 * part(turn, 991),

@@ -37,7 +37,7 @@ pub struct Run {
 }
 
 // A board with an own ship, a track and 64 targets, each with a line.
-pub fn full() -> Board {
+pub(crate) fn full() -> Board {
     let begun = fresh(EARTH);
     let bare = begun.board;
     let steered = own_ship(bare, fix(HELD));
@@ -51,7 +51,7 @@ pub fn full() -> Board {
 }
 
 // What came of a run: of its answers, and of its last board, to which a solve puts own ship and track too.
-pub fn digest(run: Run) -> u64 {
+pub(crate) fn digest(run: Run) -> u64 {
     let last = run.board;
     let a = solve(last, identity(0));
     let board = a.board;
@@ -94,7 +94,7 @@ fn of_choice(choice: Choice) -> u64 {
 
 // The call that a number names, so many times. It is chosen within the loop: a function for a turn would copy the board once more.
 // A call that asks leaves the board as it was, so the radius, which none asks for, is set anew: each turn has a board of its own. The last has the earth's.
-pub fn turns(start: Board, call: u64, count: u64) -> Run {
+pub(crate) fn turns(start: Board, call: u64, count: u64) -> Run {
     let mut board = start;
     let mut seen = 0;
     let mut turn = 0;

@@ -48,7 +48,7 @@ turned : (s q : Setting) (es fs : List Target) (c : Call) (a : Answer) → Turns
 unfolding sessionOf
 turned s q es fs c a t =
     heard (record { started = true; board = boardOf s es }) c {r = record { board = boardOf q fs; answer = a }} {k = kindOf c} {y = told (kindOf c) a}
-    refl (sym (t .answers), sym (t .leaves)) refl refl
+    refl (sym (t .answers)) (sym (t .leaves)) refl refl
 
 hinted-right : (s : Setting) (ids : List ℕ) (c : Call) (h : Hint) → Glanced s ids c h → Quickly true s ids (frame.Told c) (hinted (kindOf c) h)
 unfolding Quickly Glanced hinted told

@@ -57,14 +57,14 @@ not-heard s c e = let n = closed s e in record { replied = rw n; session-is = rw
 
 -- a call of a board
 pub heard : (s : Session) (c : Call) {r : Answered} {k : ℕ} {y : Reply} → s .started ≡ true
-    → (r .answer ≡ answer (plain (s .board)) c) × (plain (r .board) ≡ after (plain (s .board)) c) → k ≡ kindOf c → y ≡ told k (r .answer)
+    → r .answer ≡ answer (plain (s .board)) c → plain (r .board) ≡ after (plain (s .board)) c → k ≡ kindOf c → y ≡ told k (r .answer)
     → Stepping s (frame.Told c) (record { session = record { started = true; board = r .board }; reply = y })
 unfolding Replied next ifStarted afterCall
-heard s c {r} on h k e =
+heard s c {r} on a h k e =
     let o = opened s on in
     record {
-      replied = e ∙ rw (o, k, h .0);
-      session-is = opened (record { started = true; board = r .board }) refl ∙ rw (o, h .1);
+      replied = e ∙ rw (o, k, a);
+      session-is = opened (record { started = true; board = r .board }) refl ∙ rw (o, h);
     }
 
 -- a frame that leaves the session as it is

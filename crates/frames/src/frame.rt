@@ -9,20 +9,20 @@ use board::call::Call;
 use board::call::Coordinates;
 use board::call::Fix;
 
-// The digits of each kind of frame: 00, 01, 03.
+// The digits of a frame of kind 00, a fresh board; REPORT has those of 01, OWN_SHIP those of 03.
 pub const FRESH: usize = 18;
 
 pub const REPORT: usize = 86;
 
 pub const OWN_SHIP: usize = 82;
 
-// Those of the longest, 04, a track.
+// The digits of a frame of kind 04, a track, the longest.
 pub const MOST_FRAME_DIGITS: usize = 98;
 
-// Those of a frame that names a target alone, 02 and 05.
+// The digits of a frame of kind 02 or 05, which names a target alone.
 pub const NAMED: usize = 6;
 
-// Those of a kind alone, 06, 07 and 08.
+// The digits of a frame of kind 06, 07 or 08, which is its kind alone.
 pub const ASKED: usize = 2;
 
 // A frame by value.
@@ -34,7 +34,7 @@ pub enum Frame {
     Mean,
     Pick,
     Total,
-    // The line is none.
+    // The line is no frame.
     NotAFrame,
 }
 
@@ -151,7 +151,7 @@ fn solve_of(s: &[u8]) -> Frame
     }
 }
 
-// A frame of its kind alone.
+// The given frame where the line is a kind alone, two digits; else no frame.
 fn asked(s: &[u8], frame: Frame) -> Frame
     ensures { λ r. ⌜ r ≡ spec.sized 2 (now (s .entry)) frame ⌝ }
 {
@@ -162,7 +162,7 @@ fn asked(s: &[u8], frame: Frame) -> Frame
     }
 }
 
-// The frame that a line without its newline is, of which it is known whether it is digits alone.
+// The frame that a line without its newline is; `digits` says whether the line is digits alone.
 pub(crate) fn read_known(s: &[u8], digits: bool) -> Frame
     requires { ⌜ digits ≡ allDigits (now s) ⌝ }
     ensures { λ r. ⌜ r ≡ spec.frameOf (now (s .entry)) ⌝ }

@@ -115,7 +115,7 @@ pub(crate) fn line_at(s: &[u8], at: usize) -> LineSpan
     }
 }
 
-// How much is kept of a line of which n bytes were, once more have come.
+// How many bytes of a line are kept, where n were kept and `more` have come.
 pub(crate) fn kept_of(n: usize, more: usize) -> usize
     requires { ⌜ n ≤ spec.kept ⌝ }
     ensures { λ r. ⌜ r ≡ spec.least (n + more) ⌝ }
@@ -123,7 +123,7 @@ pub(crate) fn kept_of(n: usize, more: usize) -> usize
     if more < KEPT - n { n + more } else { KEPT }
 }
 
-// What is kept of a line of which n bytes were, once a part has come.
+// The bytes that are kept of a line, where the first n of `line` were kept and `part` has come.
 pub(crate) fn joined(line: [u8; KEPT], n: usize, part: &[u8]) -> [u8; KEPT]
     requires { ⌜ n ≤ spec.kept ⌝ }
     ensures { λ r. ⌜ spec.Joined line n (now (part .entry)) r ⌝ }

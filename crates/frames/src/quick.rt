@@ -19,7 +19,7 @@ pub enum Quick {
     Puts(u8, usize, Target),
     // The call of this kind is done, every line is taken away, and this is the board's setting.
     Sweeps(u8, Setting),
-    // Nothing: the entries have to be looked at.
+    // A quick look tells nothing of the frame: the entries have to be looked at.
     Unclear,
 }
 
@@ -37,7 +37,7 @@ pub fn look(started: bool, setting: Setting, ids: &[u16], frame: Frame) -> Quick
     }
 }
 
-// The reply to a total.
+// The reply to a frame that asks for the total, ff01 where no board has been started.
 fn total_reply(started: bool, setting: Setting) -> Reply
     ensures { λ r. ⌜ r ≡ spec.totalReply started setting ⌝ }
 {
@@ -48,7 +48,7 @@ fn total_reply(started: bool, setting: Setting) -> Reply
     }
 }
 
-// What a call makes of them.
+// What a call makes of every session of this setting whose targets have these identities.
 fn at_call(started: bool, setting: Setting, ids: &[u16], call: Call) -> Quick
     ensures { λ r. ⌜ r ≡ spec.atCall started setting (now (ids .entry)) call ⌝ }
 {

@@ -14,7 +14,7 @@ use spherical::outcome::Outcome;
 // The kind in the reply to a line that is no frame, or comes before a board.
 const NO_KIND: u8 = 0xff;
 
-// The number in that reply.
+// The number in the reply to a line that is no frame, or comes before a board.
 const NO_FRAME: u8 = 1;
 
 // The digits of the longest reply, a line's.
@@ -111,7 +111,7 @@ pub fn size(reply: Reply) -> usize
     }
 }
 
-// The digits of a reply, where there is room for them.
+// Writes the digits of a reply over out from at on, and gives the place past them.
 fn write(out: &mut [u8], at: usize, reply: Reply) -> usize
     requires { ⌜ at + length (spec.replyDigits reply) ≤ length (now out) ⌝ }
     ensures { λ r. ⌜ Wrote (now (out .entry)) at (length (spec.replyDigits reply)) (spec.replyDigits reply) (now (out .exit)) r ⌝ }

@@ -63,7 +63,7 @@ pub fn told(kind: u8, answer: Answer) -> Reply
     }
 }
 
-// A fresh board in place of what was there, if the radius is accepted.
+// The session and the reply after a frame that starts a board: a fresh one if the radius is accepted, else what was there.
 fn start(s: Session, radius: f64) -> Stepped
     ensures { λ r. ⌜ spec.Stepping s (Frame.Fresh radius) r ⌝ }
 {
@@ -82,7 +82,7 @@ fn start(s: Session, radius: f64) -> Stepped
     }
 }
 
-// A call of the board.
+// The session and the reply after a call of the board, ff01 where none has been started.
 fn tell(s: Session, call: Call) -> Stepped
     ensures { λ r. ⌜ spec.Stepping s (Frame.Told call) r ⌝ }
 {
@@ -126,7 +126,7 @@ fn pick_told(choice: Choice) -> Reply
     }
 }
 
-// The mean position.
+// The reply to a frame that asks for the mean position, ff01 where no board has been started.
 fn ask_mean(s: Session) -> Reply
     ensures { λ r. ⌜ spec.Replied (spec.plainOf s) Frame.Mean r ⌝ }
 {
@@ -138,7 +138,7 @@ fn ask_mean(s: Session) -> Reply
     mean_told(mean(board))
 }
 
-// A target whose meeting time is least.
+// The reply to a frame that asks for a pick, ff01 where no board has been started.
 fn ask_pick(s: Session) -> Reply
     ensures { λ r. ⌜ spec.Replied (spec.plainOf s) Frame.Pick r ⌝ }
 {
@@ -150,7 +150,7 @@ fn ask_pick(s: Session) -> Reply
     pick_told(pick(board))
 }
 
-// The total of steps.
+// The reply to a frame that asks for the total of steps, ff01 where no board has been started.
 fn ask_total(s: Session) -> Reply
     ensures { λ r. ⌜ spec.Replied (spec.plainOf s) Frame.Total r ⌝ }
 {

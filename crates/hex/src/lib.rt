@@ -159,7 +159,7 @@ fn folded(w: u64) -> u64
     (z & 0xffff_ffff) * 65536 + ((z >> 32) & 0xffff_ffff)
 }
 
-// No more than 16 digits fit a word.
+// The lesser of n and 16: no more digits fit a word.
 fn at_most_16(n: usize) -> usize
     ensures { λ r. ⌜ r ≡ min n 16 ⌝ }
 {
@@ -180,7 +180,7 @@ pub fn two_at(s: &[u8], at: usize) -> u64
     low(s[at]) * 16 + low(s[at + 1])
 }
 
-// The same of 16 digits.
+// The number of the 16 digits of s from at on, for who knows that they are digits: a byte that is none counts by its low bits alone. 0 where s ends before.
 pub fn sixteen_at(s: &[u8], at: usize) -> u64
     ensures { λ r. ⌜ r ≡ lowsIn (now (s .entry)) at 16 ⌝ }
 {

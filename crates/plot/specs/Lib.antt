@@ -1,1 +1,1 @@
-pub mod Way
+pub mod Turn

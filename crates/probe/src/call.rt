@@ -114,7 +114,7 @@ fn arguments(line: &[u8]) -> [u64; ARGUMENTS] {
 }
 
 // The answer to a line with its newline, over the page from at on, and the place past it.
-pub fn answer(line: &[u8], page: &mut [u8], at: usize) -> usize {
+pub(crate) fn answer(line: &[u8], page: &mut [u8], at: usize) -> usize {
     let next = answer_fields(line, page, at);
     fields::put_byte(page, next, b'\n')
 }

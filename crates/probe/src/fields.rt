@@ -10,12 +10,12 @@ use spherical::Side;
 use spherical::outcome::Outcome;
 
 // Argument k as a float, and zero where there is none.
-pub fn float_at(args: &[u64], k: usize) -> f64 {
+pub(crate) fn float_at(args: &[u64], k: usize) -> f64 {
     float::bits::from_bits(whole_at(args, k))
 }
 
 // Argument k as a whole number, and zero where there is none.
-pub fn whole_at(args: &[u64], k: usize) -> u64 {
+pub(crate) fn whole_at(args: &[u64], k: usize) -> u64 {
     if k >= args.len() {
         return 0;
     }
@@ -23,7 +23,7 @@ pub fn whole_at(args: &[u64], k: usize) -> u64 {
 }
 
 // The vector of the three arguments from k on.
-pub fn vec3_at(args: &[u64], k: usize) -> Vec3 {
+pub(crate) fn vec3_at(args: &[u64], k: usize) -> Vec3 {
     Vec3::new(
         float_past(args, k, 0),
         float_past(args, k, 1),
@@ -32,7 +32,7 @@ pub fn vec3_at(args: &[u64], k: usize) -> Vec3 {
 }
 
 // The matrix of the nine arguments from k on, row by row.
-pub fn mat33_at(args: &[u64], k: usize) -> Mat33 {
+pub(crate) fn mat33_at(args: &[u64], k: usize) -> Mat33 {
     Mat33::new(
         Vec3::new(
             float_past(args, k, 0),
@@ -53,12 +53,12 @@ pub fn mat33_at(args: &[u64], k: usize) -> Mat33 {
 }
 
 // The position of the three arguments from k on.
-pub fn nvector_at(args: &[u64], k: usize) -> NVector {
+pub(crate) fn nvector_at(args: &[u64], k: usize) -> NVector {
     NVector::new(vec3_at(args, k))
 }
 
 // The vehicle of the five arguments from k on: position, bearing in radians, speed in metres a second.
-pub fn vehicle_at(args: &[u64], k: usize) -> Vehicle {
+pub(crate) fn vehicle_at(args: &[u64], k: usize) -> Vehicle {
     Vehicle::new(
         nvector_at(args, k),
         Angle::from_radians(float_past(args, k, 3)),
@@ -78,7 +78,7 @@ fn float_past(args: &[u64], k: usize, i: usize) -> f64 {
 }
 
 // One byte at a place of the page, and the place past it.
-pub fn put_byte(page: &mut [u8], at: usize, b: u8) -> usize {
+pub(crate) fn put_byte(page: &mut [u8], at: usize, b: u8) -> usize {
     if at >= page.len() {
         return at;
     }
@@ -87,22 +87,22 @@ pub fn put_byte(page: &mut [u8], at: usize, b: u8) -> usize {
 }
 
 // A result of 64 bits, 16 digits.
-pub fn put_whole(page: &mut [u8], at: usize, value: u64) -> usize {
+pub(crate) fn put_whole(page: &mut [u8], at: usize, value: u64) -> usize {
     hex::put_number(page, at, value, 16)
 }
 
 // A float by its bits.
-pub fn put_float(page: &mut [u8], at: usize, x: f64) -> usize {
+pub(crate) fn put_float(page: &mut [u8], at: usize, x: f64) -> usize {
     put_whole(page, at, float::bits::to_bits(x))
 }
 
 // A number below 256, two digits: a truth value or the number of an outcome.
-pub fn put_short(page: &mut [u8], at: usize, value: u64) -> usize {
+pub(crate) fn put_short(page: &mut [u8], at: usize, value: u64) -> usize {
     hex::put_number(page, at, value, 2)
 }
 
 // 01 for true, 00 for false.
-pub fn put_bool(page: &mut [u8], at: usize, t: bool) -> usize {
+pub(crate) fn put_bool(page: &mut [u8], at: usize, t: bool) -> usize {
     if t {
         return put_short(page, at, 1);
     }
@@ -110,12 +110,12 @@ pub fn put_bool(page: &mut [u8], at: usize, t: bool) -> usize {
 }
 
 // The space between two fields.
-pub fn put_gap(page: &mut [u8], at: usize) -> usize {
+pub(crate) fn put_gap(page: &mut [u8], at: usize) -> usize {
     put_byte(page, at, b' ')
 }
 
 // 00 and the nanoseconds, or the number of the reason why there are none.
-pub fn put_converted(page: &mut [u8], at: usize, s: Converted) -> usize {
+pub(crate) fn put_converted(page: &mut [u8], at: usize, s: Converted) -> usize {
     let number = s.number();
     let told = put_short(page, at, number as u64);
     if number != 0 {
@@ -126,7 +126,7 @@ pub fn put_converted(page: &mut [u8], at: usize, s: Converted) -> usize {
 }
 
 // The three parts of a vector.
-pub fn put_vec3(page: &mut [u8], at: usize, v: Vec3) -> usize {
+pub(crate) fn put_vec3(page: &mut [u8], at: usize, v: Vec3) -> usize {
     let x = put_float(page, at, v.x());
     let y = put_float_after(page, x, v.y());
     put_float_after(page, y, v.z())
@@ -139,7 +139,7 @@ fn put_float_after(page: &mut [u8], at: usize, x: f64) -> usize {
 }
 
 // The three rows of a matrix.
-pub fn put_mat33(page: &mut [u8], at: usize, m: Mat33) -> usize {
+pub(crate) fn put_mat33(page: &mut [u8], at: usize, m: Mat33) -> usize {
     let first = put_vec3(page, at, m.row0());
     let second = put_gap(page, first);
     let third = put_vec3(page, second, m.row1());
@@ -148,7 +148,7 @@ pub fn put_mat33(page: &mut [u8], at: usize, m: Mat33) -> usize {
 }
 
 // 00 Left, 01 Right, 02 Collinear.
-pub fn put_side(page: &mut [u8], at: usize, s: Side) -> usize {
+pub(crate) fn put_side(page: &mut [u8], at: usize, s: Side) -> usize {
     match s {
         Side::Left => put_short(page, at, 0),
         Side::Right => put_short(page, at, 1),
@@ -157,7 +157,7 @@ pub fn put_side(page: &mut [u8], at: usize, s: Side) -> usize {
 }
 
 // The number, the nanoseconds and the count of an outcome.
-pub fn put_outcome(page: &mut [u8], at: usize, o: Outcome) -> usize {
+pub(crate) fn put_outcome(page: &mut [u8], at: usize, o: Outcome) -> usize {
     let first = put_short(page, at, o.number() as u64);
     let second = put_gap(page, first);
     let third = put_whole(page, second, o.nanoseconds());
@@ -166,6 +166,6 @@ pub fn put_outcome(page: &mut [u8], at: usize, o: Outcome) -> usize {
 }
 
 // The answer to a line that asks for nothing.
-pub fn put_refusal(page: &mut [u8], at: usize) -> usize {
+pub(crate) fn put_refusal(page: &mut [u8], at: usize) -> usize {
     put_byte(page, at, b'?')
 }

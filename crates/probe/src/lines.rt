@@ -18,7 +18,7 @@ pub struct Turned {
 }
 
 // A line of no bytes.
-pub fn empty() -> Line {
+pub(crate) fn empty() -> Line {
     Line {
         bytes: [0u8; KEPT],
         n: 0,
@@ -33,7 +33,7 @@ fn answer(bytes: &[u8; KEPT], n: usize, page: &mut [u8], at: usize) -> usize {
 }
 
 // Answers each line that ends in xs. The page goes out whenever an answer might not fit, and at the end.
-pub fn pour(line: Line, xs: &[u8], page: &mut [u8]) -> Turned {
+pub(crate) fn pour(line: Line, xs: &[u8], page: &mut [u8]) -> Turned {
     let mut bytes = line.bytes;
     let mut n = line.n;
     let mut at = 0;
@@ -66,7 +66,7 @@ pub fn pour(line: Line, xs: &[u8], page: &mut [u8]) -> Turned {
 }
 
 // The answer to a last line that no newline ends.
-pub fn finish(line: Line) {
+pub(crate) fn finish(line: Line) {
     let n = line.n;
     if n == 0 {
         return;

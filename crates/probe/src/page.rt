@@ -5,14 +5,14 @@ ghost use Rattle.io.specs.Counts.{Counts};
 const ANSWER: usize = 1024;
 
 // n, and the number of bytes where n is more.
-pub fn within(n: usize, bytes: &[u8]) -> usize
+pub(crate) fn within(n: usize, bytes: &[u8]) -> usize
     ensures { λ r. ⌜ Counts r (now (bytes .entry)) ⌝ }
 {
     if n < bytes.len() { n } else { bytes.len() }
 }
 
 // Might an answer not fit the page from at on?
-pub fn is_full(page: &[u8], at: usize) -> bool {
+pub(crate) fn is_full(page: &[u8], at: usize) -> bool {
     if at > page.len() {
         return true;
     }
@@ -20,7 +20,7 @@ pub fn is_full(page: &[u8], at: usize) -> bool {
 }
 
 // Writes the page up to at to standard output; was all of it taken?
-pub fn flush(page: &[u8], at: usize) -> bool {
+pub(crate) fn flush(page: &[u8], at: usize) -> bool {
     let n = within(at, page);
     io::write_all(1, &page[..n])
 }

@@ -10,3 +10,4 @@ pub mod Thirteen
 pub mod Still
 pub mod Far
 pub mod Separation
+pub mod AtRest

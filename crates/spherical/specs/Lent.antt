@@ -18,7 +18,7 @@ none = nvectorNew vec3.ZERO
 abbrev pub opposed : NVector → NVector → Bool
 opposed a p = eq p (antipode a)
 
--- before the first entry of n
+-- the tour of n entries before its first
 abbrev pub begin : ℕ → Tour
 begin n = record { going = ltb 0 n; at = 0; n = n; taken = 0; seen = 0; current = none; sum = vec3.ZERO }
 
@@ -30,11 +30,11 @@ takes t p = record { going = true; at = 0; n = t .n; taken = t .taken; seen = 1;
 abbrev pub finds : Tour → Tour
 finds t = record { going = false; at = 0; n = t .n; taken = t .taken; seen = t .seen; current = t .current; sum = t .sum }
 
--- it is not, and there are more
+-- the tour after an entry that is no antipode of the one taken, where more are to be held against it
 abbrev pub passes : Tour → Tour
 passes t = record { going = true; at = t .seen; n = t .n; taken = t .taken; seen = t .seen + 1; current = t .current; sum = t .sum }
 
--- it is not, and it was the last
+-- the tour after the last entry that is held against the one taken, no antipode of it: the next one is taken, or the tour ends
 abbrev pub turns : Tour → Tour
 turns t =
     record {

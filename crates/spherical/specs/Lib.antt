@@ -11,5 +11,6 @@ pub mod Interpolated
 pub mod Sphere
 pub mod Counts
 pub mod Before
+pub mod AtRest
 pub mod Table
 pub mod Together

@@ -20,7 +20,7 @@ struct Tour {
     sum: Vec3,
 }
 
-// The unit vector along the sum of the positions; one position is its own mean.
+// The mean of lent positions, the unit vector along their sum; one is its own mean. Empty (16) of none, Antipodal (17) where one is the negation of another or of itself.
 pub fn mean_position_of(positions: &[NVector]) -> Mean
     ensures { λ r. ⌜ r ≡ meanOf (now (positions .entry)) ⌝ }
 {
@@ -32,7 +32,7 @@ pub fn mean_position_of(positions: &[NVector]) -> Mean
     answer(tour)
 }
 
-// Before the first entry of n.
+// The tour of n entries before its first.
 fn begin(n: usize) -> Tour
     ensures { λ r. ⌜ r ≡ spec.begin n ⌝ }
 {
@@ -48,7 +48,7 @@ fn begin(n: usize) -> Tour
     }
 }
 
-// After the entry that was to be read next, which is p.
+// The tour after the entry that was to be read next, which is p.
 fn step(tour: Tour, p: NVector) -> Tour
     requires { ⌜ tour .taken < tour .n ⌝ }
     ensures { λ r. ⌜ r ≡ spec.step tour p ⌝ }
@@ -65,7 +65,7 @@ fn step(tour: Tour, p: NVector) -> Tour
     turns(tour)
 }
 
-// p is taken: it counts in the sums, and is held against the first entry next.
+// The tour after p is taken: p counts in the sums, and is held against the first entry next.
 fn takes(tour: Tour, p: NVector) -> Tour
     ensures { λ r. ⌜ r ≡ spec.takes tour p ⌝ }
 {
@@ -81,7 +81,7 @@ fn takes(tour: Tour, p: NVector) -> Tour
     }
 }
 
-// The entry read is the antipode of the one taken: the tour ends before all are taken.
+// The tour after an entry that is the antipode of the one taken: it ends before all are taken.
 fn finds(tour: Tour) -> Tour
     ensures { λ r. ⌜ r ≡ spec.finds tour ⌝ }
 {
@@ -98,7 +98,7 @@ fn finds(tour: Tour) -> Tour
     }
 }
 
-// It is not, and there are more to hold against the one taken.
+// The tour after an entry that is no antipode of the one taken, where more are to be held against it.
 fn passes(tour: Tour) -> Tour
     requires { ⌜ tour .seen < tour .n ⌝ }
     ensures { λ r. ⌜ r ≡ spec.passes tour ⌝ }
@@ -116,7 +116,7 @@ fn passes(tour: Tour) -> Tour
     }
 }
 
-// It is not, and it was the last: the next one is taken, or the tour ends.
+// The tour after the last entry that is held against the one taken, no antipode of it: the next one is taken, or the tour ends.
 fn turns(tour: Tour) -> Tour
     requires { ⌜ tour .taken < tour .n ⌝ }
     ensures { λ r. ⌜ r ≡ spec.turns tour ⌝ }
@@ -135,7 +135,7 @@ fn turns(tour: Tour) -> Tour
     }
 }
 
-// What a tour that has ended comes to.
+// The mean, or why there is none, that a tour comes to once it has ended.
 fn answer(tour: Tour) -> Mean
     ensures { λ r. ⌜ r ≡ spec.answer tour ⌝ }
 {

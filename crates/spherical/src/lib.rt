@@ -1,4 +1,4 @@
-// The source's spherical folder: a module to a file.
+// The source's spherical folder: base, great_circle, minor_arc and sphere are its files, the other modules hold parts of sphere.rs and its answers.
 ghost use mathlib.Core.Path.{_≡_};
 ghost use Rattle.spherical.specs.Side.{sideNumber};
 
@@ -17,7 +17,7 @@ pub mod walk;
 pub enum Side {
     Left,
     Right,
-    // On it, within EPSILON.
+    // The point is on the great circle, within EPSILON.
     Collinear,
 }
 

@@ -28,7 +28,7 @@ impl Mean {
     }
 }
 
-// The unit vector along the sum of the positions; one position is its own mean.
+// The mean of positions, the unit vector along their sum; one is its own mean. Empty (16) of none, Antipodal (17) where one is the negation of another or of itself.
 pub fn mean_position(cs: &[f64]) -> Mean
     ensures mean { λ r. ⌜ r ≡ spec.meanPosition (now (cs .entry)) ⌝ }
     ensures unchanged { λ r. ⌜ now (cs .exit) ≡ now (cs .entry) ⌝ }
@@ -45,7 +45,7 @@ pub fn mean_position(cs: &[f64]) -> Mean
     Mean::Position(NVector::new(vec3_mean(cs)))
 }
 
-// The unit vector along the sum of three positions, no two of them antipodes.
+// The mean of three positions, the unit vector along their sum; Antipodal (17) where two are antipodes.
 pub fn triangle_mean_position(p1: NVector, p2: NVector, p3: NVector) -> Mean
     ensures { λ r. ⌜ r ≡ spec.triangleMeanPosition p1 p2 p3 ⌝ }
 {

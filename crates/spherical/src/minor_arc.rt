@@ -27,14 +27,14 @@ impl MinorArc {
         self.start
     }
 
-    // Where it ends.
+    // Where the minor arc ends.
     pub fn end(self) -> NVector
         ensures { λ r. ⌜ r ≡ spec.end self ⌝ }
     {
         self.end
     }
 
-    // The vector normal to the plane of its great circle.
+    // The vector normal to the plane of the minor arc's great circle.
     pub fn normal(self) -> Vec3
         ensures { λ r. ⌜ r ≡ spec.normal self ⌝ }
     {

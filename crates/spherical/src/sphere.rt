@@ -184,7 +184,7 @@ impl Sphere {
         NVector::new(towards(v, dir, a.radians).unit())
     }
 
-    // The position at a fraction of the way from p1 to p2.
+    // The position at a fraction of the way from p1 to p2; Outside (18) where the fraction is not from 0.0 to 1.0.
     pub fn interpolated_position(p1: NVector, p2: NVector, f: f64) -> Interpolated
         ensures { λ r. ⌜ r ≡ spec.interpolatedPosition p1 p2 f ⌝ }
     {
@@ -226,14 +226,14 @@ impl Sphere {
         self.destination_position(vehicle.position, vehicle.bearing, distance)
     }
 
-    // The time until two vehicles that keep course and speed are closest.
+    // The time until two vehicles that keep course and speed are closest, or farthest apart; refused with 12 to 15.
     pub fn time_to_cpa(self, ownship: Vehicle, intruder: Vehicle) -> Outcome
         ensures { λ r. ⌜ r ≡ spec.timeToCpa self ownship intruder ⌝ }
     {
         Outcome::of_hours(newton_raphson(Cpa::new(self.radius, ownship, intruder)))
     }
 
-    // The time until an interceptor meets the intruder at the least speed that can: the longest such time.
+    // The time until an interceptor meets the intruder at the least speed that can, the longest such time; refused with 13 to 15.
     pub fn max_time_to_intercept(self, interceptor: NVector, intruder: Vehicle) -> Outcome
         ensures { λ r. ⌜ r ≡ spec.maxTimeToIntercept self interceptor intruder ⌝ }
     {
@@ -241,7 +241,7 @@ impl Sphere {
         Outcome::of_seconds(int_min_nr_rec(k, k.start(), 0))
     }
 
-    // The time until an interceptor meets the intruder at a given speed.
+    // The time until an interceptor meets the intruder at a given speed; refused with 13 to 15.
     pub fn time_to_intercept(self, interceptor: NVector, speed: Speed, intruder: Vehicle) -> Outcome
         ensures { λ r. ⌜ r ≡ spec.timeToIntercept self interceptor speed intruder ⌝ }
     {

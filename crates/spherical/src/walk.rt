@@ -17,19 +17,19 @@ const ONE_MILLI_HOURS: f64 = 1.0 / (3_600.0 * 1_000.0);
 // The steps of a walk, at most.
 pub const MOST_STEPS: u32 = 50;
 
-// Those of the walk to the closest approach.
+// The steps of the walk to the closest approach, at most.
 const CPA_NR_MAX_ITERATIONS: u32 = MOST_STEPS;
 
-// Those of a walk to an intercept.
+// The steps of a walk to an intercept, at most.
 const INTERCEPT_NR_MAX_ITERATIONS: u32 = MOST_STEPS;
 
 // A smaller correction, in seconds, ends a walk to an intercept.
 const INTERCEPT_NR_EPSILON: f64 = 1e-11;
 
-// The time at which the walk to the closest approach starts.
+// The time in hours at which the walk to the closest approach starts.
 pub const CPA_START: f64 = 0.0;
 
-// The time at which the walk to an intercept at a given speed starts.
+// The time in seconds at which the walk to an intercept at a given speed starts.
 pub const INTERCEPT_START: f64 = 0.1;
 
 // What a step finds at its time.
@@ -46,7 +46,7 @@ pub enum Step {
 pub enum Walk {
     Accepted { time: f64, count: u32 },
     ZeroDerivative { count: u32 },
-    // After 50 steps.
+    // No step of 50 ended the walk.
     NotConverged,
 }
 
@@ -98,7 +98,7 @@ struct Sines {
     cw2t: f64,
 }
 
-// Those at the time t.
+// The sines and cosines of the angles that two vehicles have gone through at the time t in hours.
 fn sines_at(k: Cpa, t: f64) -> Sines
     ensures { λ r. ⌜ r ≡ spec.sinesAt k t ⌝ }
 {
@@ -116,14 +116,14 @@ fn sines_at(k: Cpa, t: f64) -> Sines
     }
 }
 
-// That rate, which is zero where the two are closest: the source's `cpa_fn` with `derivate` false.
+// The rate at which the cosine of the angle between two vehicles changes, zero where they are closest or farthest apart: the source's `cpa_fn` with `derivate` false.
 fn cpa_fn(k: Cpa, s: Sines) -> f64
     ensures { λ r. ⌜ r ≡ spec.cpaFn k s ⌝ }
 {
     k.a * s.sw1t * s.sw2t + k.b * s.cw1t * s.cw2t + k.c * s.sw1t * s.cw2t + k.d * s.cw1t * s.sw2t
 }
 
-// The derivative of the rate: the source's `cpa_fn` with `derivate` true.
+// The derivative, by the time in hours, of the rate that `cpa_fn` gives: the source's `cpa_fn` with `derivate` true.
 fn cpa_derivate(k: Cpa, s: Sines) -> f64
     ensures { λ r. ⌜ r ≡ spec.cpaDerivate k s ⌝ }
 {
@@ -210,7 +210,7 @@ impl Chase {
         }
     }
 
-    // The time at which the walk to the longest intercept starts: that of an intruder that comes straight on.
+    // The time in seconds at which the walk to the longest intercept starts: that of an intruder that comes straight on.
     pub fn start(self) -> f64
         ensures { λ r. ⌜ r ≡ spec.chaseStart self ⌝ }
     {
@@ -219,7 +219,7 @@ impl Chase {
     }
 }
 
-// The position after t on the course c from v0.
+// The position after t seconds on the course c from v0, at mps metres a second on a sphere of this radius in metres.
 fn pos(v0: Vec3, c: Vec3, mps: f64, t: f64, radius: f64) -> Vec3
     ensures { λ r. ⌜ r ≡ spec.pos v0 c mps t radius ⌝ }
 {
@@ -227,7 +227,7 @@ fn pos(v0: Vec3, c: Vec3, mps: f64, t: f64, radius: f64) -> Vec3
     v0.mul(cos(a)).add(c.mul(sin(a)))
 }
 
-// The angle at t between the interceptor's position and the intruder.
+// The angle in radians between the interceptor's position and the intruder after t seconds.
 fn sep(k: Chase, t: f64) -> f64
     ensures { λ r. ⌜ r ≡ spec.sep k t ⌝ }
 {

@@ -31,6 +31,9 @@ write-all-requires c κs = search needs
 returns : tie.Need-returns
 returns c = search needs
 
+returns-2 : tie.Need-returns-2
+returns-2 c = search needs
+
 pub last-spec : {M : Type 1} → statement M
 last-spec =
     tie.close
@@ -41,4 +44,5 @@ last-spec =
     array-share-prefix-page
     slice-aggregate-write-all
     write-all-requires
-    returns)
+    returns
+    returns-2)

@@ -1,11 +1,13 @@
 -- Each turn of the loop uses some of the piece, and what is used makes up the piece.
 use Prim.Native.Nat.{_-_, _≤_, _<_}
+use mathlib.Core.Logic.{inl, inr}
 use mathlib.Core.Path.{_≡_, refl, sym, _∙_}
 use native.Mathlib.Omega.{arith}
 use lib.ListN.{length, take}
 use lib.Seq.{length-take-le, take-all}
 use Rattle.frames.specs.Stream.{view, fedState}
 use Rattle.plot.proofs.Progress.{some-used, part-length, poured}
+use Rattle.plot.proofs.Turning.{unwritten}
 use Rattle.plot.proofs.pour.Statement.{statement}
 use Rattle.plot.proofs.pour.Tie as tie
 
@@ -54,7 +56,7 @@ same-length : tie.Need-same-length Inv-loop μ-loop
 same-length c = c .before .before .before .before .before .before .before .feed .ensures .wrote .length-is ∙ c .before .before .before .before .before .before .before .before .before .before .before .loop .inv .1
 
 returns : tie.Need-returns Inv-loop μ-loop
-returns c = λ e. let z : ⊥ = omega (arith, e) in absurd z
+returns c = record { goes = inr refl; fed = λ e. absurd (unwritten e) }
 
 loop-less : tie.Need-loop-less Inv-loop μ-loop
 loop-less c =
@@ -82,7 +84,7 @@ same-length-2 c = c .before .loop .inv .1
 returns-2 : tie.Need-returns-2 Inv-loop μ-loop
 returns-2 c =
     let l = c .before .loop in
-    λ e. l .inv .2 ∙ rw (take-all (l .i) (c .before .before .before .before .args .xs .now) (omega arith))
+    record { goes = inl refl; fed = λ e. l .inv .2 ∙ rw (take-all (l .i) (c .before .before .before .before .args .xs .now) (omega arith)) }
 
 pub pour-spec : {M : Type 1} → statement M
 pour-spec =

@@ -3,7 +3,7 @@ use Prim.Native.Nat.{_-_}
 use native.Mathlib.Omega.{arith}
 use lib.ListN.{length}
 use Rattle.frames.specs.Line.{Passes}
-use Rattle.frames.proofs.SpansLine.{further-one}
+use Rattle.frames.proofs.Spans.{further-one}
 use Rattle.frames.proofs.line.end_of_line.Statement.{statement}
 use Rattle.frames.proofs.line.end_of_line.Tie as tie
 

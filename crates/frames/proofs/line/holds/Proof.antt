@@ -5,7 +5,7 @@ use native.Mathlib.Omega.{arith}
 use borrow.Author.Needs.{needs}
 use Rattle.hex.proofs.Read.{part-length}
 use Rattle.frames.specs.Line.{Holds}
-use Rattle.frames.proofs.SpansLine.{holds-on, part-at}
+use Rattle.frames.proofs.Spans.{holds-on, part-at}
 use Rattle.frames.proofs.line.holds.Statement.{statement}
 use Rattle.frames.proofs.line.holds.Tie as tie
 

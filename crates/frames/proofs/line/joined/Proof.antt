@@ -6,7 +6,7 @@ use native.Mathlib.Omega.{arith}
 use lib.ListN.{length}
 use lib.Seq.{paste, paste-zero, paste-suc, length-paste}
 use Rattle.frames.specs.Line.{kept, least}
-use Rattle.frames.proofs.SpansLine.{least-is, kept-text}
+use Rattle.frames.proofs.Spans.{least-is, kept-text}
 use Rattle.frames.proofs.line.joined.Statement.{statement}
 use Rattle.frames.proofs.line.joined.Tie as tie
 

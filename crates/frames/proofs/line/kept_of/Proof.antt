@@ -2,7 +2,7 @@
 use Prim.Native.Nat.{_+_}
 use native.Mathlib.Omega.{arith}
 use borrow.Author.Needs.{needs}
-use Rattle.frames.proofs.SpansLine.{least-is}
+use Rattle.frames.proofs.Spans.{least-is}
 use Rattle.frames.proofs.line.kept_of.Statement.{statement}
 use Rattle.frames.proofs.line.kept_of.Tie as tie
 

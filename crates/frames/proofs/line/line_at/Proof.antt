@@ -2,7 +2,7 @@
 use mathlib.Core.Path.{sym, _∙_}
 use native.Mathlib.Omega.{arith}
 use borrow.Author.Needs.{needs}
-use Rattle.frames.proofs.SpansLine.{line-of-digits}
+use Rattle.frames.proofs.Spans.{line-of-digits}
 use Rattle.frames.proofs.line.line_at.Statement.{statement}
 use Rattle.frames.proofs.line.line_at.Tie as tie
 

@@ -3,7 +3,7 @@ use Prim.Native.Nat.{_+_, _-_}
 use native.Mathlib.Omega.{arith}
 use lib.ListN.{length}
 use Rattle.frames.specs.Line.{Passes}
-use Rattle.frames.proofs.SpansLine.{begun, further}
+use Rattle.frames.proofs.Spans.{begun, further}
 use Rattle.frames.proofs.line.skip.Statement.{statement}
 use Rattle.frames.proofs.line.skip.Tie as tie
 

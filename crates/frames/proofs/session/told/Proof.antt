@@ -4,18 +4,6 @@ use borrow.Author.Needs.{needs}
 use Rattle.frames.proofs.session.told.Statement.{statement}
 use Rattle.frames.proofs.session.told.Tie as tie
 
-enum-told : tie.Need-enum-told
-enum-told c = search needs
-
-enum-known-answer : tie.Need-enum-known-answer
-enum-known-answer c = search needs
-
-enum-known-answer-2 : tie.Need-enum-known-answer-2
-enum-known-answer-2 c = search needs
-
-number-requires : tie.Need-number-requires
-number-requires c κs = search needs
-
 returns : tie.Need-returns
 unfolding told
 returns c = rw (c .enum-told .given .1)
@@ -26,16 +14,7 @@ returns-2 c = rw (c .before .answer .given .1)
 
 returns-3 : tie.Need-returns-3
 unfolding told
-returns-3 c = rw (c .before .before .answer2 .given .1, c .number .ensures)
+returns-3 c = rw (c .number .ensures, c .before .enum-told2 .given .1)
 
 pub told-spec : {M : Type 1} → statement M
-told-spec =
-    tie.close
-    (tie.spec
-    enum-told
-    enum-known-answer
-    enum-known-answer-2
-    number-requires
-    returns
-    returns-2
-    returns-3)
+told-spec = tie.close (tie.spec (λ c. search needs) (λ c. search needs) (λ c. search needs) (λ c κs. tt) returns returns-2 returns-3)

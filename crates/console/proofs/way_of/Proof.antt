@@ -1,27 +1,28 @@
 -- `way_of` meets its contract, by the sign of the number.
 use mathlib.Core.Path.{_≡_, refl, sym, subst}
 use mathlib.Core.Bool.{true, false, false≢true}
-use Prim.Native.Nat.{ℕ, zero, suc}
+use Prim.Native.Nat.{zero, suc}
 use native.Mathlib.Omega.{arith}
 use borrow.Author.Tests.{ltb-true, ltb-false}
 use lib.IntN.{ℤ, pos, negsuc}
 use lib.Signed.{ltZ}
 use mir.Syntax.{w64}
 use mir.ValLaws.{toZ-ofZ}
-use Rattle.plot.specs.Way.{wayOf}
-use Rattle.plot.proofs.way_of.Statement.{statement}
-use Rattle.plot.proofs.way_of.Tie as tie
+use Rattle.console.specs.declared.Way.the-variants.{On, Ended, ReadFailed}
+use Rattle.console.specs.Way.{wayOf}
+use Rattle.console.proofs.way_of.Statement.{statement}
+use Rattle.console.proofs.way_of.Tie as tie
 
-below : (z : ℤ) → ltZ z (pos 0) ≡ true → _≡_ {A = ℕ} 2 (wayOf z)
+below : (z : ℤ) → ltZ z (pos 0) ≡ true → ReadFailed ≡ wayOf z
 below (pos n) e = let z : ⊥ = omega (arith, ltb-true n 0 e) in absurd z
 below (negsuc n) e = refl
 
-above : (z : ℤ) → ltZ (pos 0) z ≡ true → _≡_ {A = ℕ} 0 (wayOf z)
+above : (z : ℤ) → ltZ (pos 0) z ≡ true → On ≡ wayOf z
 above (pos zero) e = let z : ⊥ = omega (arith, ltb-true 0 0 e) in absurd z
 above (pos (suc n)) e = refl
 above (negsuc n) e = absurd (false≢true e)
 
-neither : (z : ℤ) → ltZ z (pos 0) ≡ false → ltZ (pos 0) z ≡ false → _≡_ {A = ℕ} 1 (wayOf z)
+neither : (z : ℤ) → ltZ z (pos 0) ≡ false → ltZ (pos 0) z ≡ false → Ended ≡ wayOf z
 neither (pos zero) d e = refl
 neither (pos (suc n)) d e = let z : ⊥ = omega (arith, ltb-false 0 (suc n) e) in absurd z
 neither (negsuc n) d e = absurd (false≢true (sym d))
