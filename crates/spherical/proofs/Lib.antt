@@ -3,8 +3,8 @@ pub mod Steps
 pub mod Positions
 pub mod Means
 pub mod Coordinates
-pub mod TourCases
-pub mod Tours
+pub mod Entries
+pub mod Slices
 pub mod Counts
 pub mod Thirteen
 pub mod Still

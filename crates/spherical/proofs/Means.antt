@@ -1,14 +1,15 @@
 -- The mean of a list, and of coordinates, by their number and by the question 17. Assumes nothing.
-use mathlib.Core.Path.{_≡_, ap, _∙_}
+use mathlib.Core.Path.{_≡_, refl, sym, ap, _∙_}
 use mathlib.Core.Bool.{true, false, false≢true}
 use mathlib.Core.List.{List, [], _∷_}
-use Prim.Native.Nat.{_≤_, _<_}
+use Prim.Native.Nat.{ℕ, suc, _≤_, _<_}
 use native.Mathlib.Omega.{arith}
-use lib.ListN.{length, drop}
+use lib.ListN.{length, drop, getD}
 use lib.Ieee.{Float}
+use borrow.Author.Tests.{ne-eqb}
 use Rattle.jord.specs.Positions.{nvectorNew}
 use Rattle.jord.specs.declared.positions.NVector.{NVector}
-use Rattle.spherical.specs.Mean.{containsAntipodal, vec3Mean, meanOf, positions, nthPosition, meanPosition}
+use Rattle.spherical.specs.Mean.{containsAntipodal, sum, vec3Mean, meanOf, meanBy, positions, nthPosition, meanPosition}
 use Rattle.spherical.specs.declared.mean.Mean.the-variants.{Position, Empty, Antipodal}
 use Rattle.spherical.proofs.Positions.{positions-on, positions-few, positions-out}
 
@@ -21,6 +22,17 @@ one-of ps p s e = rw s (rw (rw s at e))
 
 pub more-of : (ps : List NVector) (p q : NVector) (l : List NVector) → ps ≡ p ∷ q ∷ l → containsAntipodal ps ≡ false → meanOf ps ≡ Position (nvectorNew (vec3Mean ps))
 more-of ps p q l s e = rw s (rw (rw s at e))
+
+pub mean-by : (ps : List NVector) (last d : NVector) → containsAntipodal ps ≡ false → (length ps ≡ 1 → last ≡ getD ps 0 d) → meanBy (length ps) last (sum ps) ≡ meanOf ps
+mean-by [] last d e h = refl
+mean-by (p ∷ []) last d e h = ap Position (h refl) ∙ sym (one-of (p ∷ []) p refl e)
+mean-by (p ∷ q ∷ l) last d e h = rw (ne-eqb (length (p ∷ q ∷ l)) 0 (no (length l)), ne-eqb (length (p ∷ q ∷ l)) 1 (not-one (length l))) (sym (more-of (p ∷ q ∷ l) p q l refl e))
+  where
+    no : (n : ℕ) → suc (suc n) ≡ 0 → ⊥
+    no n h = omega arith
+
+    not-one : (n : ℕ) → suc (suc n) ≡ 1 → ⊥
+    not-one n h = omega arith
 
 module _ (cs : List Float) where
   pub mean-empty : length cs < 3 → meanPosition cs ≡ Empty

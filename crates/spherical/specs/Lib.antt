@@ -6,7 +6,6 @@ pub mod Course
 pub mod Walk
 pub mod Outcome
 pub mod Mean
-pub mod Lent
 pub mod Interpolated
 pub mod Sphere
 pub mod Counts

@@ -2,6 +2,7 @@
 use Prim.Native.Nat.{ℕ, _+_, _*_}
 use mathlib.Core.Bool.{Bool, false, cond, _||_}
 use mathlib.Core.List.{List, [], _∷_}
+use lib.Dec.{eqb}
 use lib.ListN.{getD}
 use lib.Ieee as Ieee
 use lib.Ieee.{Float, nan}
@@ -67,6 +68,10 @@ meanFrom p (q ∷ l) = nvectorNew (vec3Mean (p ∷ q ∷ l))
 abbrev pub meanOf : List NVector → Mean
 meanOf [] = Empty
 meanOf (p ∷ l) = cond (containsAntipodal (p ∷ l)) Antipodal (Position (meanFrom p l))
+
+-- the mean of n positions, none the antipode of one, by the last of them and the sums
+abbrev pub meanBy : ℕ → NVector → Vec3 → Mean
+meanBy n last s = cond (eqb n 0) Empty (cond (eqb n 1) (Position last) (Position (nvectorNew (along s))))
 
 -- p1.is_antipode_of(p2) || p1.is_antipode_of(p3) || p2.is_antipode_of(p3)
 abbrev pub antipodalPair : NVector → NVector → NVector → Bool
