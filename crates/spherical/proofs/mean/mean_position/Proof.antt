@@ -13,8 +13,8 @@ empty c = (sym (mean-empty (c .before .before .args .cs .now) (omega arith)), re
 antipodal : tie.Need-returns-2
 antipodal c = (sym (mean-antipodal (c .before .before .before .before .args .cs .now) (sym (c .before .contains-antipodal .ensures) ∙ c .if2 .taken)), refl)
 
-one : tie.Need-returns-3
-one c =
+only-position : tie.Need-returns-3
+only-position c =
     let k = c .before .before in
     let cs = k .before .before .before .before .args .cs .now in
     let e = sym (k .before .contains-antipodal .ensures) ∙ k .if2 .left in
@@ -28,4 +28,4 @@ more c =
     (rw (c .new .ensures, c .before .vec3-mean .ensures) (sym (mean-more cs (omega arith) e)), refl)
 
 pub mean-position-spec : {M : Type 1} → statement M
-mean-position-spec = tie.close (tie.spec empty (λ c κs. tt) antipodal (λ c κs. search needs) one (λ c κs. tt) (λ c κs. tt) more)
+mean-position-spec = tie.close (tie.spec empty (λ c κs. tt) antipodal (λ c κs. search needs) only-position (λ c κs. tt) (λ c κs. tt) more)
