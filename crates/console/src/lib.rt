@@ -1,6 +1,7 @@
 // What the programs share: how one goes on after a read, and what it says on standard error.
 ghost use mathlib.Core.Path.{_≡_};
-ghost use Rattle.console.specs.Way.{wayOf};
+ghost use lib.Dec.{ltb};
+ghost use Rattle.console.specs.Way.{wayOf, isFault};
 
 // How a program goes on, or why it ends.
 pub enum Way {
@@ -24,7 +25,7 @@ pub fn way_of(got: isize) -> Way
 }
 
 // Says in a line of the program's own words which failed, the reading or the writing, and why. It reads errno, which the failed call has left.
-// An output that nobody reads any more ends a program and is no fault: nothing is said of it.
+// Of a write that is no fault nothing is said.
 pub fn tell(way: Way, reading: &[u8], writing: &[u8]) {
     match way {
         Way::On | Way::Ended => {}
@@ -32,18 +33,32 @@ pub fn tell(way: Way, reading: &[u8], writing: &[u8]) {
             os::fail(reading);
         }
         Way::WriteFailed => {
-            if os::errno() != libc::EPIPE {
+            if is_fault(os::errno()) {
                 os::fail(writing);
             }
         }
     }
 }
 
+// Is a failed write with this errno a fault? An output that nobody reads any more is none.
+pub fn is_fault(error: i32) -> bool
+    ensures { λ r. ⌜ r ≡ isFault error ⌝ }
+{
+    error != libc::EPIPE
+}
+
+// Was a program started with an argument? Its own name is the first of these.
+pub fn has_argument(words: usize) -> bool
+    ensures { λ r. ⌜ r ≡ ltb 1 words ⌝ }
+{
+    1 < words
+}
+
 // Says the usage where the program was started with an argument, for none takes one. Did it?
 pub fn usage_said(usage: &[u8]) -> bool {
-    if os::arg_count() < 2 {
-        return false;
+    if has_argument(os::arg_count()) {
+        io::write_all(libc::STDERR_FILENO, usage);
+        return true;
     }
-    io::write_all(libc::STDERR_FILENO, usage);
-    true
+    false
 }
