@@ -9,7 +9,8 @@ use Rattle.jord.specs.Vehicle as vehicles
 use Rattle.jord.specs.declared.positions.NVector.{NVector}
 use Rattle.jord.specs.declared.vehicle.Vehicle.{Vehicle}
 use Rattle.board.specs.declared.line.Ends.{Ends}
-use Rattle.board.specs.declared.line.Line.{Line}
+use Rattle.board.specs.declared.targets.Lined.{Lined}
+use Rattle.board.specs.declared.targets.Lined.the-variants.{Bare, With}
 use Rattle.board.specs.declared.call.Coordinates.{Coordinates}
 use Rattle.board.specs.declared.call.Fix.{Fix}
 use Rattle.board.specs.declared.call.Call.{Call}
@@ -59,7 +60,7 @@ answerNumber (Solved l) = 0
 answerNumber (Refused r) = numberOf r
 
 -- its values: "Solve: makes, stores and returns that target's line"; no other answer has any
-abbrev pub answerLine : Answer → Option Line
-answerLine Done = none
-answerLine (Solved l) = some l
-answerLine (Refused r) = none
+abbrev pub answerLine : Answer → Lined
+answerLine Done = Bare
+answerLine (Solved l) = With l
+answerLine (Refused r) = Bare

@@ -3,6 +3,7 @@ ghost use mathlib.Core.Path.{_≡_};
 ghost use Rattle.board.specs.Call as spec;
 use crate::line::Ends;
 use crate::line::Line;
+use crate::targets::Lined;
 use jord::angle::Angle;
 use jord::positions::NVector;
 use jord::speed::Speed;
@@ -95,6 +96,17 @@ impl Answer {
             Answer::Done => 0,
             Answer::Solved(_) => 0,
             Answer::Refused(refusal) => refusal.number(),
+        }
+    }
+
+    // The line that the answer hands out, or none.
+    pub fn line(self) -> Lined
+        ensures { λ r. ⌜ r ≡ spec.answerLine self ⌝ }
+    {
+        match self {
+            Answer::Done => Lined::Bare,
+            Answer::Solved(line) => Lined::With(line),
+            Answer::Refused(_) => Lined::Bare,
         }
     }
 }

@@ -83,6 +83,7 @@ pub fn board_of(setting: Setting, entries: [Target; MOST_TARGETS]) -> Board
 // What a call makes of every board of this setting whose targets have these identities.
 pub fn glance(setting: Setting, ids: &[u16], call: Call) -> Hint
     ensures { λ r. ⌜ r ≡ spec.glance setting (now (ids .entry)) call ⌝ }
+    ensures unchanged { λ r. ⌜ now (ids .exit) ≡ now (ids .entry) ⌝ }
 {
     match call {
         Call::Report(identity, fix) => at_report(setting.count, ids, identity, fix),

@@ -125,6 +125,7 @@ fn identities_of(entries: [Target; MOST_TARGETS], n: usize) -> [u16; MOST_TARGET
 // Where an identity stands among the first of these, at most 64, or before which it would.
 pub fn seek(ids: &[u16], count: usize, identity: u16) -> Spot
     ensures { λ r. ⌜ r ≡ spec.spotIn 0 identity (take (spec.atMost count) (now (ids .entry))) ⌝ }
+    ensures unchanged { λ r. ⌜ now (ids .exit) ≡ now (ids .entry) ⌝ }
 {
     let m = least(count);
     let n = if m < ids.len() { m } else { ids.len() };

@@ -11,7 +11,7 @@ use lib.Ieee.Exact.{HasValue}
 use lib.Ieee.Fits.{mul-fits}
 use lib.Ieee.Nearest.{closest, closest-same}
 use lib.Ieee.Positive.{num, den, den-pos}
-use Rattle.float.specs.Bits.{signBit, partsOf}
+use Rattle.float.specs.Bits.{signBit, unpacked}
 use Rattle.float.specs.declared.bits.Unpacked.{Unpacked}
 use Rattle.float.proofs.Value.{HasParts, parts-value}
 use Rattle.float.specs.Operators.{whole}
@@ -66,14 +66,14 @@ pub record Digits (x : Float) (j : ℕ) (p : Unpacked) : Type 0 where
   pub parts : HasParts x (p .digits) (p .place)
   pub low : p .place < 1022 + j
 
-digits-of : (x : Float) (n j b : ℕ) (p : Unpacked) → n ≤ 2 ^ j → Within x n → T (fits binary64 x) → b ≡ toBits binary64 x → p ≡ partsOf b → Digits x j p
+digits-of : (x : Float) (n j b : ℕ) (p : Unpacked) → n ≤ 2 ^ j → Within x n → T (fits binary64 x) → b ≡ toBits binary64 x → p ≡ unpacked b → Digits x j p
 digits-of x n j b p h w f e q =
-    let parts = subst (λ (z : Unpacked). HasParts x (z .digits) (z .place)) (sym (q ∙ ap partsOf e)) (parts-value x f (w .is-finite)) in
+    let parts = subst (λ (z : Unpacked). HasParts x (z .digits) (z .place)) (sym (q ∙ ap unpacked e)) (parts-value x f (w .is-finite)) in
     record { parts = parts; low = place-lt x (p .digits) (p .place) j parts (lt-of-lt-of-le (w .below) (mul-le-mul-right (den x) h)) }
 
 -- ---- the digits of what passes both questions
-pub seconds-digits : (t : Float) (b : ℕ) (p : Unpacked) → T (fits binary64 t) → not (zeroOrMore t) ≡ false → not (belowLimit t) ≡ false → b ≡ toBits binary64 t → p ≡ partsOf b → Digits t 34 p
+pub seconds-digits : (t : Float) (b : ℕ) (p : Unpacked) → T (fits binary64 t) → not (zeroOrMore t) ≡ false → not (belowLimit t) ≡ false → b ≡ toBits binary64 t → p ≡ unpacked b → Digits t 34 p
 seconds-digits t b p f x y e q = digits-of t limit 34 b p (lit≤ tt) (within-limit t (yes (zeroOrMore t) x) (yes (belowLimit t) y)) f e q
 
-pub product-digits : (h : Float) (b : ℕ) (p : Unpacked) → not (zeroOrMore h) ≡ false → not (productBelow h) ≡ false → b ≡ toBits binary64 (product h) → p ≡ partsOf b → Digits (product h) 64 p
+pub product-digits : (h : Float) (b : ℕ) (p : Unpacked) → not (zeroOrMore h) ≡ false → not (productBelow h) ≡ false → b ≡ toBits binary64 (product h) → p ≡ unpacked b → Digits (product h) 64 p
 product-digits h b p x y e q = digits-of (product h) limitNanoseconds 64 b p (lit≤ tt) (within-limit-nanoseconds h (yes (zeroOrMore h) x) (yes (productBelow h) y)) (mul-fits binary64 h (whole hour)) e q

@@ -12,7 +12,7 @@ use lib.Ieee.{Float, nan, inf, fin, binary64, up, down, odd, round, rem, neg, of
 use lib.Ieee.Exact.{HasValue, odd-sign, round-exact}
 use lib.Ieee.Fits.{up-pos, down-pos, rem-fits}
 use lib.Ieee.Scale.{finite}
-use Rattle.float.specs.Bits.{magnitude, signBit, digits, place, partsOf}
+use Rattle.float.specs.Bits.{magnitude, signBit, digits, place, unpacked}
 use Rattle.float.specs.declared.bits.Unpacked.{Unpacked}
 use Rattle.float.proofs.Pattern.{Placed}
 use Rattle.float.proofs.Sign.{magnitude-of}
@@ -195,7 +195,7 @@ pub record Divides (x y : Float) : Type 0 where
   pub divisor : 0 < digits-of y
   pub small : digits-of y < 2 ^ 53
   pub order : place-of y ≤ place-of x
-  pub is : rem binary64 x y ≡ with-sign (signBit x) (rem-parts (partsOf (toBits binary64 x)) (partsOf (toBits binary64 y)))
+  pub is : rem binary64 x y ≡ with-sign (signBit x) (rem-parts (unpacked (toBits binary64 x)) (unpacked (toBits binary64 y)))
 
 pub rem-of-larger : (x y : Float) → T (fits binary64 x) → T (fits binary64 y) → T (finite x) → (toBits binary64 y % 2 ^ 63 ≡ 0 → ⊥) → toBits binary64 y % 2 ^ 63 ≤ toBits binary64 x % 2 ^ 63 → Divides x y
 rem-of-larger x y f g t z h =

@@ -26,5 +26,5 @@ digits b = cond (eqb (b % 2 ^ 63 / 2 ^ 52) 0) (b % 2 ^ 52) (b % 2 ^ 52 + 2 ^ 52)
 abbrev pub place : ℕ → ℕ
 place b = b % 2 ^ 63 / 2 ^ 52 - 1
 
-abbrev pub partsOf : ℕ → Unpacked
-partsOf b = record { digits = digits b; place = place b }
+abbrev pub unpacked : ℕ → Unpacked
+unpacked b = record { digits = digits b; place = place b }

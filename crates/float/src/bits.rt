@@ -63,7 +63,7 @@ pub fn magnitude(x: f64) -> f64
 
 // The significand, its leading digit included, and the place of a pattern's magnitude.
 pub fn unpack(bits: u64) -> Unpacked
-    ensures { λ r. ⌜ r ≡ spec.partsOf bits ⌝ }
+    ensures { λ r. ⌜ r ≡ spec.unpacked bits ⌝ }
 {
     let field = bits % SIGN / FIELD;
     let low = bits % FIELD;

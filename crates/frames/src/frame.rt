@@ -191,6 +191,7 @@ pub(crate) fn read_known(s: &[u8], digits: bool) -> Frame
 // The frame that a line without its newline is.
 pub fn read(s: &[u8]) -> Frame
     ensures { λ r. ⌜ r ≡ spec.frameOf (now (s .entry)) ⌝ }
+    ensures unchanged { λ r. ⌜ now (s .exit) ≡ now (s .entry) ⌝ }
 {
     if s.len() > MOST_FRAME_DIGITS {
         return Frame::NotAFrame;

@@ -26,6 +26,7 @@ pub enum Quick {
 // What a frame makes of every session of this setting whose targets have these identities.
 pub fn look(started: bool, setting: Setting, ids: &[u16], frame: Frame) -> Quick
     ensures { λ r. ⌜ r ≡ spec.look started setting (now (ids .entry)) frame ⌝ }
+    ensures unchanged { λ r. ⌜ now (ids .exit) ≡ now (ids .entry) ⌝ }
 {
     match frame {
         Frame::Fresh(_) => Quick::Unclear,

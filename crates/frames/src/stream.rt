@@ -227,6 +227,7 @@ fn lines(s: Stream, xs: &[u8], page: &mut [u8]) -> Fed
 // Answers the whole lines of a piece, from the start of the page on, until the piece ends or a reply might not fit.
 pub fn feed(s: Stream, xs: &[u8], page: &mut [u8]) -> Fed
     ensures { λ r. ⌜ spec.Feeding s (now (xs .entry)) (now (page .entry)) (now (page .exit)) r ⌝ }
+    ensures unchanged { λ r. ⌜ now (xs .exit) ≡ now (xs .entry) ⌝ }
 {
     if s.n == 0 {
         return lines(s, xs, page);

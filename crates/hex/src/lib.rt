@@ -46,6 +46,7 @@ fn block_of_digits(s: &[u8], at: usize) -> bool
 // Are all bytes of s digits?
 pub fn all_digits(s: &[u8]) -> bool
     ensures { λ r. ⌜ r ≡ allDigits (now (s .entry)) ⌝ }
+    ensures unchanged { λ r. ⌜ now (s .exit) ≡ now (s .entry) ⌝ }
 {
     if s.len() < 16 {
         return each_digit(s);
@@ -170,6 +171,7 @@ fn at_most_16(n: usize) -> usize
 // 0 where s ends before.
 pub fn two_at(s: &[u8], at: usize) -> u64
     ensures { λ r. ⌜ r ≡ lowsIn (now (s .entry)) at 2 ⌝ }
+    ensures unchanged { λ r. ⌜ now (s .exit) ≡ now (s .entry) ⌝ }
 {
     if at > s.len() {
         return 0;
@@ -183,6 +185,7 @@ pub fn two_at(s: &[u8], at: usize) -> u64
 // The number of the 16 digits of s from at on, for who knows that they are digits: a byte that is none counts by its low bits alone. 0 where s ends before.
 pub fn sixteen_at(s: &[u8], at: usize) -> u64
     ensures { λ r. ⌜ r ≡ lowsIn (now (s .entry)) at 16 ⌝ }
+    ensures unchanged { λ r. ⌜ now (s .exit) ≡ now (s .entry) ⌝ }
 {
     if at > s.len() {
         return 0;
@@ -199,6 +202,7 @@ pub fn sixteen_at(s: &[u8], at: usize) -> u64
 // A byte that is no digit counts as 0, and so does a place past the end of s.
 pub fn number_at(s: &[u8], at: usize, n: usize) -> u64
     ensures { λ r. ⌜ r ≡ hexAt (now (s .entry)) at (min n 16) ⌝ }
+    ensures unchanged { λ r. ⌜ now (s .exit) ≡ now (s .entry) ⌝ }
 {
     let width = at_most_16(n);
     if at <= s.len() {

@@ -1,7 +1,7 @@
 -- The invariant: ok says whether the last 16 bytes and those before i are digits.
 use Prim.Native.Nat.{_+_, _-_, _≤_}
 use mathlib.Core.Bool.{_&&_}
-use mathlib.Core.Path.{_≡_, _∙_}
+use mathlib.Core.Path.{refl, _≡_, _∙_}
 use native.Mathlib.Omega.{arith}
 use lib.ListN.{length, take, drop}
 use Rattle.hex.specs.Hex.{allDigits}
@@ -19,7 +19,7 @@ each-digit-requires : tie.Need-each-digit-requires Inv-loop μ-loop
 each-digit-requires c κs = tt
 
 returns : tie.Need-returns Inv-loop μ-loop
-returns c = c .each-digit .ensures
+returns c = (c .each-digit .ensures, refl)
 
 sub-last : tie.Need-sub-last Inv-loop μ-loop
 sub-last c = omega arith
@@ -50,7 +50,7 @@ returns-2 : tie.Need-returns-2 Inv-loop μ-loop
 returns-2 c =
     let l = c .before .loop in
     let s = c .before .before .before .before .before .args .s .now in
-    l .inv .1 ∙ blocks-end s (length s - 16) (l .i) (omega arith)
+    (l .inv .1 ∙ blocks-end s (length s - 16) (l .i) (omega arith), refl)
 
 pub all-digits-spec : {M : Type 1} → statement M
 all-digits-spec =

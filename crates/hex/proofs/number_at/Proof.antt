@@ -1,5 +1,5 @@
 -- Digits alone are read by their low bits from the part that they fill, and anything else byte by byte.
-use mathlib.Core.Path.{sym, ap, _∙_}
+use mathlib.Core.Path.{refl, sym, ap, _∙_}
 use native.Mathlib.Omega.{arith}
 use Rattle.hex.specs.Hex.{hexAt}
 use Rattle.hex.proofs.Read.{hex-reads, part-length, number-part, lows-digits}
@@ -37,11 +37,13 @@ lows-of-requires c κs =
 returns : tie.Need-returns
 returns c =
     let w = c .before .before .before .before .before .before .at-most-16 in
-    let a = c .before .before .before .before .before .before .before .before .args in
-    c .lows-of .ensures
-    ∙ lows-digits _ 0 _ (sym (c .before .before .all-digits .ensures) ∙ c .before .if3 .taken)
-    ∙ number-part (a .s .now) (a .at) (w .result) (omega arith) hex-reads
-    ∙ ap (hexAt (a .s .now) (a .at)) (w .ensures)
+    let a = c .before .before .before .before .before .before .before .before .args in (
+      c .lows-of .ensures
+          ∙ lows-digits _ 0 _ (sym (c .before .before .all-digits .ensures .0) ∙ c .before .if3 .taken)
+          ∙ number-part (a .s .now) (a .at) (w .result) (omega arith) hex-reads
+          ∙ ap (hexAt (a .s .now) (a .at)) (w .ensures),
+      refl,
+    )
 
 number-of-any-requires : tie.Need-number-of-any-requires
 number-of-any-requires c κs = search needs
@@ -49,7 +51,7 @@ number-of-any-requires c κs = search needs
 returns-2 : tie.Need-returns-2
 returns-2 c =
     let a = c .before .before .before .before .args in
-    c .number-of-any .ensures ∙ ap (hexAt (a .s .now) (a .at)) (c .before .before .at-most-16 .ensures)
+    (c .number-of-any .ensures ∙ ap (hexAt (a .s .now) (a .at)) (c .before .before .at-most-16 .ensures), refl)
 
 pub number-at-spec : {M : Type 1} → statement M
 number-at-spec =

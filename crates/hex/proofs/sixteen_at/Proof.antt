@@ -1,6 +1,6 @@
 -- Sixteen digits are two halves of eight.
 use Prim.Native.Nat.{_+_}
-use mathlib.Core.Path.{sym, _∙_}
+use mathlib.Core.Path.{refl, sym, _∙_}
 use native.Mathlib.Omega.{arith}
 use Rattle.hex.proofs.Read.{lows-gone, lows-there, lows-reads, below, halves}
 use borrow.Author.Needs.{needs}
@@ -8,13 +8,13 @@ use Rattle.hex.proofs.sixteen_at.Statement.{statement}
 use Rattle.hex.proofs.sixteen_at.Tie as tie
 
 returns : tie.Need-returns
-returns c = let a = c .before .before .args in lows-gone (a .s .now) (a .at) 16 (omega arith)
+returns c = let a = c .before .before .args in (lows-gone (a .s .now) (a .at) 16 (omega arith), refl)
 
 sub-if2 : tie.Need-sub-if2
 sub-if2 c = search needs
 
 returns-2 : tie.Need-returns-2
-returns-2 c = let a = c .before .before .before .args in lows-gone (a .s .now) (a .at) 16 (omega arith)
+returns-2 c = let a = c .before .before .before .args in (lows-gone (a .s .now) (a .at) 16 (omega arith), refl)
 
 eight-requires : tie.Need-eight-requires
 eight-requires c κs = search needs
@@ -49,7 +49,7 @@ returns-3 c =
     let a = c .before .before .before .before .before .before .before .args in
     let h = c .before .before .folded .ensures ∙ c .before .before .before .eight .ensures in
     let l = c .folded2 .ensures ∙ c .before .eight2 .ensures in
-    rw (h, l) (sym (halves lows-reads (a .s .now) (a .at) 8 8) ∙ lows-there (a .s .now) (a .at) 16 (omega arith))
+    (rw (h, l) (sym (halves lows-reads (a .s .now) (a .at) 8 8) ∙ lows-there (a .s .now) (a .at) 16 (omega arith)), refl)
 
 pub sixteen-at-spec : {M : Type 1} → statement M
 sixteen-at-spec =

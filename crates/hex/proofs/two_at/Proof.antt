@@ -1,4 +1,5 @@
 -- Two digits by their low bits, where s has them.
+use mathlib.Core.Path.{refl}
 use native.Mathlib.Omega.{arith}
 use Rattle.hex.proofs.Read.{lows-gone, two-lows}
 use borrow.Author.Needs.{needs}
@@ -6,13 +7,13 @@ use Rattle.hex.proofs.two_at.Statement.{statement}
 use Rattle.hex.proofs.two_at.Tie as tie
 
 returns : tie.Need-returns
-returns c = let a = c .before .before .args in lows-gone (a .s .now) (a .at) 2 (omega arith)
+returns c = let a = c .before .before .args in (lows-gone (a .s .now) (a .at) 2 (omega arith), refl)
 
 sub-if2 : tie.Need-sub-if2
 sub-if2 c = search needs
 
 returns-2 : tie.Need-returns-2
-returns-2 c = let a = c .before .before .before .args in lows-gone (a .s .now) (a .at) 2 (omega arith)
+returns-2 c = let a = c .before .before .before .args in (lows-gone (a .s .now) (a .at) 2 (omega arith), refl)
 
 shared-slice-read-low : tie.Need-shared-slice-read-low
 shared-slice-read-low c = search needs
@@ -36,7 +37,7 @@ add-result : tie.Need-add-result
 add-result c = search needs
 
 returns-3 : tie.Need-returns-3
-returns-3 c = let a = c .before .before .before .before .before .before .before .args in two-lows (a .s .now) (a .at) (omega arith) (c .before .before .low .ensures) (c .low2 .ensures)
+returns-3 c = let a = c .before .before .before .before .before .before .before .args in (two-lows (a .s .now) (a .at) (omega arith) (c .before .before .low .ensures) (c .low2 .ensures), refl)
 
 pub two-at-spec : {M : Type 1} → statement M
 two-at-spec =

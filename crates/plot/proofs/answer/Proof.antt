@@ -30,7 +30,9 @@ returns c =
     let w = c .before .before .before .before .before .before .before .before .way-of in
     let a = c .before .before .before .before .before .before .before .before .before .before .before in
     let k = c .before .before .before .before .before .count in
-    turning-on (a .args .s) _ (a .args .got) (a .args .piece .now) (k .result) (w .result) _ (toZ-ofZ w64 (a .args .got) (a .fits .got)) (w .ensures) (c .before .before .before .before .before .before .enum-told .given .1) (k .ensures .1) (c .before .before .pour .ensures)
+    let on = c .before .before .before .before .before .before .enum-told .given .1 in
+    turning-on (a .args .s) _ (a .args .got) (a .args .piece .now) (k .result) (w .result) _ (toZ-ofZ w64 (a .args .got) (a .fits .got))
+    (w .ensures) on (k .ensures .1) (c .before .before .pour .ensures)
 
 returns-2 : tie.Need-returns-2
 returns-2 c =

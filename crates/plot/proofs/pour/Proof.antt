@@ -37,23 +37,23 @@ feed-requires c κs = tt
 add-i : tie.Need-add-i Inv-loop μ-loop
 add-i c =
     let e = part-length (c .before .before .before .before .before .before .before .before .before .before .before .args .xs .now) (c .before .before .before .before .before .before .before .before .loop .i) (omega arith) in
-    omega (arith, e, c .before .before .before .before .feed .ensures .within)
+    omega (arith, e, c .before .before .before .before .feed .ensures .0 .within)
 
 slice-reshare-prefix-write-all : tie.Need-slice-reshare-prefix-write-all Inv-loop μ-loop
 slice-reshare-prefix-write-all c =
-    let w = c .before .before .before .before .feed .ensures .wrote in
+    let w = c .before .before .before .before .feed .ensures .0 .wrote in
     omega (arith, w .within, w .length-is)
 
 slice-aggregate-write-all : tie.Need-slice-aggregate-write-all Inv-loop μ-loop
 slice-aggregate-write-all c =
-    let w = c .before .before .before .before .before .feed .ensures .wrote in
+    let w = c .before .before .before .before .before .feed .ensures .0 .wrote in
     sym (length-take-le _ _ (omega (arith, w .within, w .length-is)))
 
 write-all-requires : tie.Need-write-all-requires Inv-loop μ-loop
 write-all-requires c κs = tt
 
 same-length : tie.Need-same-length Inv-loop μ-loop
-same-length c = c .before .before .before .before .before .before .before .feed .ensures .wrote .length-is ∙ c .before .before .before .before .before .before .before .before .before .before .before .loop .inv .1
+same-length c = c .before .before .before .before .before .before .before .feed .ensures .0 .wrote .length-is ∙ c .before .before .before .before .before .before .before .before .before .before .before .loop .inv .1
 
 returns : tie.Need-returns Inv-loop μ-loop
 returns c = record { goes = inr refl; fed = λ e. absurd (unwritten e) }
@@ -63,7 +63,7 @@ loop-less c =
     let a = c .before .before .before .before .before .before .before .before .before .before .before .before .before .before .args in
     let l = c .before .before .before .before .before .before .before .before .before .before .before .loop in
     let e = part-length (a .xs .now) (l .i) (omega arith) in
-    let f = c .before .before .before .before .before .before .before .feed .ensures in
+    let f = c .before .before .before .before .before .before .before .feed .ensures .0 in
     let u : 0 < c .before .before .before .before .before .before .before .feed .result .used = some-used f (omega (arith, e)) (omega (arith, l .inv .1)) in
     omega (arith, e, f .within)
 
@@ -72,7 +72,7 @@ loop-again c =
     let l = c .before .before .before .before .before .before .before .before .before .before .before .loop in
     let a = c .before .before .before .before .before .before .before .before .before .before .before .before .before .before .args in
     let e = part-length (a .xs .now) (l .i) (omega arith) in
-    let f = c .before .before .before .before .before .before .before .feed .ensures in (
+    let f = c .before .before .before .before .before .before .before .feed .ensures .0 in (
       omega (arith, e, f .within),
       f .wrote .length-is ∙ l .inv .1,
       f .state-is ∙ poured (view (a .s)) _ (a .xs .now) (l .i) (c .before .before .before .before .before .before .before .feed .result .used) (l .inv .2) (omega (arith, e, f .within)),

@@ -52,7 +52,7 @@ goes : (c : tie.After-seek) (k : Spot) → c .seek .result ≡ k
 goes c k h =
     let s = c .before .before in
     let r = ap accepts (sym (asked (s .before))) ∙ not-false _ (sym (s .refuses .ensures) ∙ c .before .if1 .left) in
-    report-goes _ _ _ _ k (sym (c .seek .ensures) ∙ h) r
+    report-goes _ _ _ _ k (sym (c .seek .ensures .0) ∙ h) r
 
 returns-2 : tie.Need-returns-2
 returns-2 c = rw (c .vehicle .ensures) (goes (c .before .before .before .before) _ (c .before .before .p .given .1))

@@ -49,17 +49,21 @@ returns : tie.Need-returns Inv-loop μ-loop
 returns c =
     let l = c .before .before .before .before .loop in
     let b = c .before .before .before .before .before in
-    let a = b .before .before .before .args in
-    search-held (a .identity) (b .if1 .n) (a .ids .now) (l .i) (l .inv .2) (l .inv .4) (omega arith) (c .before .if2 .taken) (c .if3 .taken)
-    ∙ searched (a .identity) _ (b .if1 .n) (a .count) (a .ids .now) (l .inv .3) (b .before .least .ensures)
+    let a = b .before .before .before .args in (
+      search-held (a .identity) (b .if1 .n) (a .ids .now) (l .i) (l .inv .2) (l .inv .4) (omega arith) (c .before .if2 .taken) (c .if3 .taken)
+          ∙ searched (a .identity) _ (b .if1 .n) (a .count) (a .ids .now) (l .inv .3) (b .before .least .ensures),
+      refl,
+    )
 
 returns-2 : tie.Need-returns-2 Inv-loop μ-loop
 returns-2 c =
     let l = c .before .before .before .before .loop in
     let b = c .before .before .before .before .before in
-    let a = b .before .before .before .args in
-    search-free (a .identity) (b .if1 .n) (a .ids .now) (l .i) (l .inv .2) (l .inv .4) (omega arith) (c .before .if2 .taken) (c .if3 .left)
-    ∙ searched (a .identity) _ (b .if1 .n) (a .count) (a .ids .now) (l .inv .3) (b .before .least .ensures)
+    let a = b .before .before .before .args in (
+      search-free (a .identity) (b .if1 .n) (a .ids .now) (l .i) (l .inv .2) (l .inv .4) (omega arith) (c .before .if2 .taken) (c .if3 .left)
+          ∙ searched (a .identity) _ (b .if1 .n) (a .count) (a .ids .now) (l .inv .3) (b .before .least .ensures),
+      refl,
+    )
 
 add-i : tie.Need-add-i Inv-loop μ-loop
 add-i c = search needs
@@ -78,9 +82,11 @@ returns-3 : tie.Need-returns-3 Inv-loop μ-loop
 returns-3 c =
     let l = c .before .loop in
     let b = c .before .before in
-    let a = b .before .before .before .args in
-    search-out (a .identity) (b .if1 .n) (a .ids .now) (l .i) (l .inv .2) (l .inv .4) (omega arith)
-    ∙ searched (a .identity) _ (b .if1 .n) (a .count) (a .ids .now) (l .inv .3) (b .before .least .ensures)
+    let a = b .before .before .before .args in (
+      search-out (a .identity) (b .if1 .n) (a .ids .now) (l .i) (l .inv .2) (l .inv .4) (omega arith)
+          ∙ searched (a .identity) _ (b .if1 .n) (a .count) (a .ids .now) (l .inv .3) (b .before .least .ensures),
+      refl,
+    )
 
 pub seek-spec : {M : Type 1} → statement M
 seek-spec =

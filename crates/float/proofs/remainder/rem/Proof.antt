@@ -3,7 +3,7 @@ use mathlib.Core.Path.{_≡_, sym, ap, _∙_, subst}
 use lib.Dec.{T}
 use mathlib.Core.Bool.{Bool, true, false}
 use lib.Ieee.{Float, binary64, rem, fits, toBits}
-use Rattle.float.specs.Bits.{partsOf}
+use Rattle.float.specs.Bits.{unpacked}
 use Rattle.float.specs.declared.bits.Unpacked.{Unpacked}
 use borrow.Author.Needs.{needs}
 use Rattle.float.proofs.Pattern.{is-nan, not-nan, zero-by-zero}
@@ -68,15 +68,15 @@ sign-bit-requires : tie.Need-sign-bit-requires
 sign-bit-requires c κs = search needs
 
 -- the call's answer, from the parts that were handed over to the patterns' own
-of-magnitudes : (c : tie.After-sign-bit) → c .before .rem-of-unpacked .result ≡ rem-parts (partsOf (toBits binary64 (start c .args .x))) (partsOf (toBits binary64 (start c .args .y)))
+of-magnitudes : (c : tie.After-sign-bit) → c .before .rem-of-unpacked .result ≡ rem-parts (unpacked (toBits binary64 (start c .args .x))) (unpacked (toBits binary64 (start c .args .y)))
 of-magnitudes c =
     let d = c .before .before in
-    c .before .rem-of-unpacked .ensures ∙ ap (λ (p : Unpacked). rem-parts p (d .unpack2 .result)) (d .before .unpack .ensures) ∙ ap (rem-parts (partsOf (toBits binary64 (start c .args .x)))) (d .unpack2 .ensures)
+    c .before .rem-of-unpacked .ensures ∙ ap (λ (p : Unpacked). rem-parts p (d .unpack2 .result)) (d .before .unpack .ensures) ∙ ap (rem-parts (unpacked (toBits binary64 (start c .args .x)))) (d .unpack2 .ensures)
 
 signed : (b : Bool) (c : tie.After-sign-bit) → c .sign-bit .result ≡ b → with-sign b (c .before .rem-of-unpacked .result) ≡ rem binary64 (start c .args .x) (start c .args .y)
 signed b c e =
     ap (with-sign b) (of-magnitudes c)
-    ∙ ap (λ (s : Bool). with-sign s (rem-parts (partsOf (toBits binary64 (start c .args .x))) (partsOf (toBits binary64 (start c .args .y))))) (sym e ∙ c .sign-bit .ensures)
+    ∙ ap (λ (s : Bool). with-sign s (rem-parts (unpacked (toBits binary64 (start c .args .x))) (unpacked (toBits binary64 (start c .args .y))))) (sym e ∙ c .sign-bit .ensures)
     ∙ sym (divides (c .before .before .before .before) .is)
 
 returns-6 : tie.Need-returns-6

@@ -15,7 +15,7 @@ from-bits-requires c κs = search needs
 returns : tie.Need-returns
 returns c =
     let s = c .before .before .before in
-    c .from-bits .ensures ∙ ap (ofBits binary64) (c .before .sixteen-at .ensures ∙ lows-known (s .args .s .now) (s .args .at) 16 (s .pre .1) (s .pre .0))
+    c .from-bits .ensures ∙ ap (ofBits binary64) (c .before .sixteen-at .ensures .0 ∙ lows-known (s .args .s .now) (s .args .at) 16 (s .pre .1) (s .pre .0))
 
 pub float-at-spec : {M : Type 1} → statement M
 float-at-spec = tie.close (tie.spec sixteen-at-requires from-bits-requires returns)

@@ -16,10 +16,10 @@ two-at-requires-2 : tie.Need-two-at-requires-2
 two-at-requires-2 c κs = search needs
 
 first : (c : tie.After-two-at2) → c .before .two-at .result ≡ hexAt (now (c .before .before .before .args .s)) 2 2
-first c = let s = c .before .before .before in c .before .two-at .ensures ∙ lows-known (s .args .s .now) 2 2 (s .pre .1) (omega arith)
+first c = let s = c .before .before .before in c .before .two-at .ensures .0 ∙ lows-known (s .args .s .now) 2 2 (s .pre .1) (omega arith)
 
 second : (c : tie.After-two-at2) → c .two-at2 .result ≡ hexAt (now (c .before .before .before .args .s)) 4 2
-second c = let s = c .before .before .before in c .two-at2 .ensures ∙ lows-known (s .args .s .now) 4 2 (s .pre .1) (omega arith)
+second c = let s = c .before .before .before in c .two-at2 .ensures .0 ∙ lows-known (s .args .s .now) 4 2 (s .pre .1) (omega arith)
 
 four : (c : tie.After-two-at2) → c .before .two-at .result * 256 + c .two-at2 .result ≡ hexAt (now (c .before .before .before .args .s)) 2 4
 four c = rw (first c, second c) (sym (halves hex-reads (now (c .before .before .before .args .s)) 2 2 2))
@@ -27,7 +27,7 @@ four c = rw (first c, second c) (sym (halves hex-reads (now (c .before .before .
 mul-result : tie.Need-mul-result
 mul-result c =
     let s = c .before .before in
-    let h = c .two-at .ensures ∙ lows-known (s .args .s .now) 2 2 (s .pre .1) (omega arith) in
+    let h = c .two-at .ensures .0 ∙ lows-known (s .args .s .now) 2 2 (s .pre .1) (omega arith) in
     omega (arith, h, number-below (s .args .s .now) 2 2)
 
 add-result : tie.Need-add-result

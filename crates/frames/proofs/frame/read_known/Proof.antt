@@ -16,7 +16,7 @@ digits-alone c = passes (c .before .before .before .pre) (c .before .if1 .left)
 
 -- the kind is that of the line
 kind-is : (c : tie.After-two-at) → c .two-at .result ≡ hexAt (now (c .before .before .before .before .args .s)) 0 2
-kind-is c = c .two-at .ensures ∙ lows-known _ 0 2 (digits-alone (c .before)) (omega arith)
+kind-is c = c .two-at .ensures .0 ∙ lows-known _ 0 2 (digits-alone (c .before)) (omega arith)
 
 returns : tie.Need-returns
 returns c = no-digits _ (fails (c .before .before .pre) (c .if1 .taken))

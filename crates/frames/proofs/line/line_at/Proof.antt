@@ -40,7 +40,7 @@ returns : tie.Need-returns
 returns c =
     let n = c .before .before .before .before .before .before .likely-length .result in
     let a = c .before .before .before .before .before .before .before .before .args in
-    let digits = sym (c .before .all-digits .ensures) ∙ c .if3 .taken in
+    let digits = sym (c .before .all-digits .ensures .0) ∙ c .if3 .taken in
     record {
       ends-at = line-of-digits (a .s .now) (a .at) n (omega arith) (c .before .before .before .if2 .taken) digits;
       digits-are = sym digits;

@@ -45,7 +45,7 @@ enum-told c = search needs
 -- the session has a board, and the glance's hint is h
 goes : (c : tie.After-glance) (k : ℕ) (h : Hint) → let a = c .before .before .before .args in
     k ≡ kindOf (a .call) → c .glance .result ≡ h → hinted k h ≡ atCall (a .started) (a .setting) (a .ids .now) (a .call)
-goes c k h e t = call-goes _ _ _ _ k _ h (not-false _ (c .before .if1 .left)) e (c .glance .ensures) t
+goes c k h e t = call-goes _ _ _ _ k _ h (not-false _ (c .before .if1 .left)) e (c .glance .ensures .0) t
 
 returns-2 : tie.Need-returns-2
 unfolding hinted

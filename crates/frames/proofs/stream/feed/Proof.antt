@@ -1,4 +1,5 @@
 -- The line that has begun, and then the lines after it.
+use mathlib.Core.Path.{refl}
 use borrow.Author.Needs.{needs}
 use native.Mathlib.Omega.{arith}
 use Rattle.frames.proofs.Feeds.{going-feeds, used-within, next-within, feeding-then}
@@ -12,7 +13,7 @@ same-length : tie.Need-same-length
 same-length c = search needs
 
 returns : tie.Need-returns
-returns c = search needs
+returns c = (c .before .before .lines .ensures, refl)
 
 go-on-requires : tie.Need-go-on-requires
 go-on-requires c κs = search needs
@@ -21,7 +22,7 @@ same-length-2 : tie.Need-same-length-2
 same-length-2 c = search needs
 
 returns-2 : tie.Need-returns-2
-returns-2 c = going-feeds (c .before .before .before .before .before .go-on .ensures) (omega arith)
+returns-2 c = (going-feeds (c .before .before .before .before .before .go-on .ensures) (omega arith), refl)
 
 sub-lines : tie.Need-sub-lines
 sub-lines c = search needs
@@ -54,7 +55,9 @@ same-length-3 : tie.Need-same-length-3
 same-length-3 c = search needs
 
 returns-3 : tie.Need-returns-3
-returns-3 c = feeding-then (c .before .before .before .before .before .before .before .before .before .before .before .before .before .go-on .ensures) (c .before .before .before .before .before .lines2 .ensures)
+returns-3 c =
+    let went = c .before .before .before .before .before .before .before .before .before .before .before .before .before .go-on .ensures in
+    (feeding-then went (c .before .before .before .before .before .lines2 .ensures), refl)
 
 pub feed-spec : {M : Type 1} → statement M
 feed-spec =

@@ -76,7 +76,7 @@ returns-2 c =
     let v = begun-passed (a .s) l (n .ensures) (e .ensures .passes) in
     let t = begun-kept (a .xs .now) (e .result) (c .before .before .before .before .before .before .before .before .before .before .before .before .before .joined .ensures) (e .ensures .passes .within) (c .before .before .before .before .before .before .before .before .before .before .before .before .kept-of .ensures) in
     let w = waits-not _ _ _ (sym (c .before .before .before .before .before .before .before .before .before .before .before .waits .ensures) ∙ c .before .before .before .before .before .before .before .before .before .before .if1 .left) in
-    let f = c .before .before .before .before .before .before .before .before .read .ensures ∙ ap frameOf t ∙ frame-cut _ in
+    let f = c .before .before .before .before .before .before .before .before .read .ensures .0 ∙ ap frameOf t ∙ frame-cut _ in
     rw (c .session-of .ensures)
     (going-on (a .s) _ 0 (passed-whole v (w .0) (e .ensures .ends (w .0)) f (c .before .before .before .before .before .before .answer .ensures)) (sym (take-nil kept)) (λ z h. absurd (z refl)))
 

@@ -96,7 +96,7 @@ looked : (c : tie.After-look Inv-loop μ-loop) → let l = c .before .before .be
 looked c =
     let l = c .before .before .before .before .before .before .before .before .loop in
     let f = c .before .before .read-known .result in
-    subst (Quickly (l .started) (l .setting) (l .ids) f) (sym (c .look .ensures)) (quickly (l .started) (l .setting) (l .ids) f)
+    subst (Quickly (l .started) (l .setting) (l .ids) f) (sym (c .look .ensures .0)) (quickly (l .started) (l .setting) (l .ids) f)
 
 -- a place that it gives is one of the entries
 place-below : (c : tie.After-known-told2 Inv-loop μ-loop) → c .before .kind .given .0 .1 .0 < mostTargets
