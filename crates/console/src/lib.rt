@@ -26,7 +26,9 @@ pub fn way_of(got: isize) -> Way
 
 // Says in a line of the program's own words which failed, the reading or the writing, and why. It reads errno, which the failed call has left.
 // Of a write that is no fault nothing is said.
-pub fn tell(way: Way, reading: &[u8], writing: &[u8]) {
+pub fn tell(way: Way, reading: &[u8], writing: &[u8])
+    ensures unchanged { λ _. ⌜ (now (reading .exit) ≡ now (reading .entry)) × (now (writing .exit) ≡ now (writing .entry)) ⌝ }
+{
     match way {
         Way::On | Way::Ended => {}
         Way::ReadFailed => {
@@ -55,7 +57,9 @@ pub fn has_argument(words: usize) -> bool
 }
 
 // Says the usage where the program was started with an argument, for none takes one. Did it?
-pub fn usage_said(usage: &[u8]) -> bool {
+pub fn usage_said(usage: &[u8]) -> bool
+    ensures unchanged { λ r. ⌜ now (usage .exit) ≡ now (usage .entry) ⌝ }
+{
     if has_argument(os::arg_count()) {
         io::write_all(libc::STDERR_FILENO, usage);
         return true;
