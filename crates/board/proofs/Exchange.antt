@@ -30,7 +30,7 @@ use Rattle.board.proofs.Steps.{Fit, fit-after, after-elim, onto, accept
 
 -- ---- what a call that names a target reads and writes: that target's place, own ship, track, radius and total
 
--- its answer for what is in that place, where there is room
+-- the answer of a call for what is held under the identity that it names, where there is room
 reply : Plain → Call → Found → Answer
 reply b (Report i f) x = ask (identityAsked i) (askFix f Done)
 reply b (Withdraw i) x = ask (identityAsked i) (ask (heldAsked x) Done)

@@ -31,7 +31,7 @@ abbrev BestIn : (Target → Type 0) → Best → Type 0
 BestIn seen Missing = (u : Target) → seen u → meetingTime u ≡ none
 BestIn seen (At i s) = LeastIn seen i s
 
--- the same targets are seen
+-- what is best of the targets seen is best of the same targets seen otherwise
 same-seen : (p q : Target → Type 0) → ((u : Target) → p u → q u) → ((u : Target) → q u → p u) → (b : Best) → BestIn p b → BestIn q b
 same-seen p q to from Missing h = λ u s. h u (from u s)
 same-seen p q to from (At i s) h =

@@ -87,7 +87,7 @@ abbrev pub choiceNumber : Choice → ℕ
 choiceNumber (choice.Target i) = 0
 choiceNumber (choice.Refused r) = numberOf r
 
--- its value, the identity; 0, which no target has, when refused
+-- the identity picked; 0, which no target has, when refused
 abbrev pub choiceIdentity : Choice → ℕ
 choiceIdentity (choice.Target i) = i
 choiceIdentity (choice.Refused r) = 0

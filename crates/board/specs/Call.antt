@@ -59,7 +59,7 @@ answerNumber Done = 0
 answerNumber (Solved l) = 0
 answerNumber (Refused r) = numberOf r
 
--- its values: "Solve: makes, stores and returns that target's line"; no other answer has any
+-- the values of an answer: "Solve: makes, stores and returns that target's line"; no other answer has any
 abbrev pub answerLine : Answer → Lined
 answerLine Done = Bare
 answerLine (Solved l) = With l

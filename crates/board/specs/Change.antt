@@ -35,7 +35,7 @@ pub record Seeks (es : List Target) (n x : ℕ) (r : Sought) : Type 0 where
   pub spot-is : r .spot ≡ spotFrom 0 x (take n es)
   pub found-is : r .found ≡ find x (take n es)
 
--- this is the answer to a call of every board with these parts, n targets, and this held under the identity that the call names
+-- a is the answer to call c of every board with these parts, n targets, and x held under the identity that the call names
 unfoldable pub RightAnswer : Float → Own → Tracked → Found → ℕ → Call → Answer → Type 0
 RightAnswer r o t x n c a =
     (l : List Target) (k : ℕ) → x ≡ find (nameOf c) l → n ≡ length l

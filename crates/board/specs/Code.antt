@@ -60,7 +60,7 @@ pub record Whole (r : Float) (cs : List Call) (rs : List Answer) (last : Board) 
   pub answers-are : rs ≡ answers (fresh r) cs
   -- the board left stands for the plain board's: "After the list radius, own ship and track are the plain board's too"
   pub board-is : plain last ≡ run (fresh r) cs
-  -- and of that board, and those answers, the rest of the demand holds
+  -- the rest of the demand, of the plain board's answers and of the board that it leaves
   pub demand : Demand3 r cs
   -- "Where such a list names at most 64 identities, take any list made from it by exchanging neighbours that name different targets,
   -- however many times": calls of the code by that list, on any fresh board of the same radius

@@ -78,7 +78,7 @@ pub record Demand3 (r : Float) (cs : List Call) : Type 0 where
   pub line : (i : ℕ) (h : Held) → Holds (run (fresh r) cs) i h → h .line ≡ lastLine i Bare (heard (fresh r) cs)
   -- "Each step count in a line is from 1 to 50": in each line that a call returns
   pub counts-handed-out : AnswersFit (answers (fresh r) cs)
-  -- and in each line that stands on the board
+  -- "Each step count in a line is from 1 to 50": in each line that stands on the board
   pub counts-standing : (i : ℕ) (h : Held) → Holds (run (fresh r) cs) i h → LineFits (h .line)
   -- "the step total equals, modulo 2^32, the sum of all counts handed out"
   pub total : run (fresh r) cs .total ≡ handedOut (answers (fresh r) cs) % totals

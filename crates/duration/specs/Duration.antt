@@ -25,7 +25,7 @@ hour = 3600 * second
 abbrev pub limit : ℕ
 limit = 2 ^ 34
 
--- the same limit in nanoseconds: 2 ^ 34 times 10 ^ 9, which is a value of binary64, as all of these are
+-- the limit in nanoseconds: 2 ^ 34 times 10 ^ 9, which is a value of binary64, as all of these are
 abbrev pub limitNanoseconds : ℕ
 limitNanoseconds = limit * second
 

@@ -91,7 +91,7 @@ module _ (p m D W : ℕ) where
   estimate = leading * inverse / W
 
   module _ (mp : 0 < m) (Dp : 0 < D) (Wp : 0 < W) where
-    -- it is not above p / m
+    -- the estimate is not above p / m
     pub barrett-low : estimate * m ≤ p
     barrett-low =
         let x = mul-le-mul-right (m * D) (div-mul-le-self (leading * inverse) W) in
@@ -102,7 +102,7 @@ module _ (p m D W : ℕ) where
         chain : (h i q p m D W : ℕ) → q * W * (m * D) ≤ h * i * (m * D) → h * D * (i * m) ≤ h * D * (D * W) → h * D * (D * W) ≤ p * (D * W) → q * m * (D * W) ≤ p * (D * W)
         chain h i q p m D W x y z = omega arith
 
-    -- and at most two below it, where the leading digits and the inverse are words
+    -- the estimate is at most two below p / m, where the leading digits and the inverse are words
     pub barrett-high : leading ≤ W → inverse ≤ W → p < (estimate + 3) * m
     barrett-high h i =
         let u = mul-le-mul-right W (lt-div-mul-add {a = p} Dp) in

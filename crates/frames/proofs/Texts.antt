@@ -38,6 +38,6 @@ pub text-one : (q : Asked) (y : Reply) → Replied (q .board) (q .frame) y → T
 unfolding AllReplied written
 text-one q y h = record { replies = y ∷ []; replied = (h, tt); text-is = sym (append-nil _) }
 
--- the same questions told otherwise
+-- a text answers equal questions
 pub text-by : {qs ps : List Asked} {t : List ℕ} → qs ≡ ps → Text qs t → Text ps t
 text-by {qs} {ps} {t} e a = subst (λ (l : List Asked). Text l t) e a

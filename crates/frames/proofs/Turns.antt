@@ -47,7 +47,7 @@ answers-by e a = record { text = a .text; text-of = text-by e (a .text-of); wrot
 
 -- ---- bytes that are no newline, and a newline
 
--- they are added to the line as far as it is kept, and ask nothing
+-- bytes that are no newline are added to the line as far as it is kept, and ask nothing
 module _ (o : Option Plain) where
   bytes-state : (q p : List ℕ) → ((k : ℕ) → k < length p → getD p k 0 ≢ newline)
       → fedState (record { board = o; part = take kept q }) p ≡ record { board = o; part = take kept (q ++ p) }
@@ -172,7 +172,7 @@ module _ {m : Model} {xs page₀ page line : List ℕ} {s : Session} {at i : ℕ
       → Passed m xs page₀ out (sessionOf (r .started) (r .setting) (r .targets .entries)) [] (r .next) (i + 1)
   passed-whole a = line-passed _ (a .session-is) (a .text-of) (a .wrote)
 
--- the same of an equal session, and from an equal start
+-- what is answered of a session is answered of an equal one, and what has passed from a start has passed from an equal one
 pub answering-by : {s t : Session} {f : Frame} {page out : List ℕ} {at : ℕ} {r : InParts} → s ≡ t → Answering s f page at out r → Answering t f page at out r
 answering-by {f = f} {page} {out} {at} {r} e a = subst (λ (x : Session). Answering x f page at out r) e a
 

@@ -109,7 +109,7 @@ pub record Feeding (s : Stream) (xs page out : List ℕ) (r : Fed) : Type 0 wher
   pub text-of : Text (fedAsks (view s) (take (r .used) xs)) text
   pub wrote : Wrote page 0 (length text) text out (r .next)
 
--- the same of the line that has begun alone: where it is not yet answered the piece is used up, or its newline waits for room
+-- the bytes used of a piece for the line that has begun alone: where it is not yet answered the piece is used up, or its newline waits for room
 pub record GoingOn (s : Stream) (xs page out : List ℕ) (r : Fed) : Type 0 where
   pub within : r .used ≤ length xs
   pub stops : r .stream .n ≢ 0 → r .used < length xs → (getD xs (r .used) 0 ≡ newline) × (length page < r .next + room)
@@ -124,7 +124,7 @@ pub record Finished (s : Stream) (page out : List ℕ) (next : ℕ) : Type 0 whe
   pub text-of : Text (endAsks (view s)) text
   pub wrote : Wrote page 0 (length text) text out next
 
--- the same where the page has the room for any reply, and nothing where not
+-- the end of the input: `Finished` where the page has the room for any reply, and nothing is written where not
 pub record Finishing (s : Stream) (page out : List ℕ) (next : ℕ) : Type 0 where
   pub no-room : length page < room → (out ≡ page) × (next ≡ 0)
   pub finished : room ≤ length page → Finished s page out next

@@ -97,7 +97,7 @@ then {xs} {mid} {out} {ys} {zs} {at} {n} {r} {m} {q} a b =
       text = b .text ∙ ap (λ (l : List ℕ). over l r zs) (a .text) ∙ ap (λ (k : ℕ). over (over xs at ys) k zs) e ∙ over-over xs ys zs at (omega arith);
     }
 
--- the same write, its text told otherwise and its size by its length
+-- a write with an equal text, its size told by the text's length
 pub as-length : {xs ys zs out : List ℕ} {at n r : ℕ} → Wrote xs at n ys out r → ys ≡ zs → Wrote xs at (length zs) zs out r
 as-length {xs} {ys} {zs} {out} {at} {n} {r} w e =
     let l : n ≡ length zs = sym (w .size) ∙ ap length e in

@@ -32,7 +32,7 @@ unfoldable pub lowsAt : List ℕ → ℕ → ℕ → ℕ
 lowsAt s at zero = 0
 lowsAt s at (suc n) = lowsAt s at n * 16 + lowOf (getD s (at + n) 0)
 
--- the same where s has all n, and 0 where it ends before
+-- the number of n bytes by their low bits where s has all n of them, and 0 where it ends before
 abbrev pub lowsIn : List ℕ → ℕ → ℕ → ℕ
 lowsIn s at n = cond (leb (at + n) (length s)) (lowsAt s at n) 0
 

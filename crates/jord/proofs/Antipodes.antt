@@ -13,7 +13,7 @@ use Rattle.jord.proofs.Vectors.{new-keeps}
 pub antipode-twice : (p : NVector) → Held (asVec3 p) → antipode (antipode p) ≡ nvectorNew (new (asVec3 p .x) (asVec3 p .y) (asVec3 p .z))
 antipode-twice p h = rw (twice (asVec3 p .x) (h .x), twice (asVec3 p .y) (h .y), twice (asVec3 p .z) (h .z))
 
--- and itself where no part is -0
+-- the antipode of the antipode is the position itself where no part is -0
 pub antipode-back : (p : NVector) → Held (asVec3 p) → NoMinusZero (asVec3 p) → antipode (antipode p) ≡ p
 antipode-back p h n = antipode-twice p h ∙ ap nvectorNew (new-keeps (asVec3 p) h n)
 

@@ -97,7 +97,7 @@ no-minus-zero x f = rw (plus-zero x f) (go (isMinusZero x) refl)
     go true e = zero-plain
     go false e = e
 
--- and it is x where x is not
+-- 0.0 plus x is x where x is not -0.0
 pub kept : (x : Float) → T (fits binary64 x) → isMinusZero x ≡ false → literal.zero ⊕ x ≡ x
 kept x f n = plus-zero x f ∙ ap (λ (b : Bool). cond b literal.zero x) n
 

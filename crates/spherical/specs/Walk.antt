@@ -210,7 +210,7 @@ spdCorrection k w1 t = spdQuotient t w1 (sep k t) (separating k (cos (k .w2 ⊗ 
 unfoldable pub intSpdStep : Chase → Float → Float → Step
 intSpdStep k w1 t = corrected t (spdCorrection k w1 t)
 
--- likewise `int_spd_nr_rec` after i steps
+-- `int_spd_nr_rec` after i steps has the rest of the fifty before it
 abbrev pub intSpdNrRec : Chase → Float → Float → ℕ → Walk
 intSpdNrRec k w1 t i = walk (intSpdStep k w1) (mostSteps - i) t
 

@@ -46,7 +46,7 @@ vehicle-requires c κs = search needs
 enum-told : tie.Need-enum-told
 enum-told c = search needs
 
--- they let it through, and k is the place
+-- the questions let the report through, and k is its place
 goes : (c : tie.After-seek) (k : Spot) → c .seek .result ≡ k
     → let a = c .before .before .before .before .before .before .before .args in putAt k (a .identity) (a .fix) ≡ atReport (a .count) (a .ids .now) (a .identity) (a .fix)
 goes c k h =

@@ -114,7 +114,7 @@ module _ {M : Type 1} (𝓤 : URA M) (H : Heap 𝓤) (A : Atoms 𝓤) (W : Given
     abbrev Own : GName → List NVector → ℕ → Fml
     Own γ ys m = ShrSlice (named 0) κ T.the-row .own (s γ ys) (sliceVal (b, 0) m ∷ [])
 
-    -- the same without its machine value
+    -- a lent slice of positions without its machine value
     abbrev Bare : GName → List NVector → Fml
     Bare γ ys = bare.ShrSlice erased κ T.the-row .own (s γ ys)
 
