@@ -119,8 +119,18 @@ pub fn spoil(r: &mut Random, words: &mut [u64]) {
 
 /// As at sea: 1 to 20,000 km away, both at 0.2 to 20 metres a second, sizes alike.
 pub fn chase(r: &mut Random) -> Scene {
+    apart(r, 1e3, 2e7)
+}
+
+/// The same, 10 m to 1 km away.
+pub fn close(r: &mut Random) -> Scene {
+    apart(r, 10.0, 1e3)
+}
+
+/// So many metres away.
+fn apart(r: &mut Random, least: f64, most: f64) -> Scene {
     let own = Ship { position: position(r), bearing: any_bearing(r), speed: r.sized(0.2, 20.0) };
-    let away = r.sized(1e3, 2e7) / EARTH;
+    let away = r.sized(least, most) / EARTH;
     let position = moved(own.position, any_bearing(r), away);
     let target = Ship { position, bearing: any_bearing(r), speed: r.sized(0.2, 20.0) };
     scene(r, own, target)

@@ -4,7 +4,8 @@
 use super::ends::{End, Kind, LATER, end, found};
 use super::meetings::Pursuit;
 use super::tables::{Counts, seconds, share};
-use crate::inputs::scenes::Scene;
+use crate::inputs::scenes::{Scene, angle};
+use std::iter;
 
 /// Metres a second.
 pub const NUDGE: f64 = 1e-6;
@@ -18,6 +19,9 @@ pub enum Method {
     Nudges(fn(&mut Scene, f64), usize),
     /// On a sphere whose radius is divided by each of these in turn.
     Clocks(&'static [f64]),
+    /// On a sphere whose radius is divided by the largest power of two whose clock begins no later
+    /// than the two can meet; then by half of it, and so on.
+    Early,
 }
 
 /// A time found, after so many solves, in seconds of the chase; whether it is the first meeting:
@@ -34,12 +38,32 @@ impl Method {
             Method::Nudges(change, most) => {
                 (1..=*most).find_map(|nudges| solve_changed(kind, *change, scene, nudges))
             }
-            Method::Clocks(clocks) => (1..).zip(*clocks).find_map(|(solves, clock)| {
-                let time = clock * found_time(kind, &faster(scene, *clock))?;
-                Some(Second { solves, time, is_first: (time - first).abs() <= LATER })
-            }),
+            Method::Clocks(clocks) => in_turn(kind, scene, clocks.iter().copied(), first),
+            Method::Early => in_turn(kind, scene, early_clocks(scene), first),
         }
     }
+}
+
+/// What is found under the first of these clocks that finds.
+fn in_turn(
+    kind: &Kind,
+    scene: &Scene,
+    clocks: impl Iterator<Item = f64>,
+    first: f64,
+) -> Option<Second> {
+    (1..).zip(clocks.take(MOST)).find_map(|(solves, clock)| {
+        let time = clock * found_time(kind, &faster(scene, clock))?;
+        Some(Second { solves, time, is_first: (time - first).abs() <= LATER })
+    })
+}
+
+/// The powers of two, falling, under whose clock the walk to a meeting begins no later than the two
+/// can meet: it begins at a tenth of a second, and they close by no more than both speeds.
+fn early_clocks(scene: &Scene) -> impl Iterator<Item = f64> {
+    let apart = scene.radius * angle(scene.own.position, scene.target.position);
+    let most = 10.0 * apart / (scene.own.speed + scene.target.speed);
+    let largest = 2.0f64.powf(most.log2().floor());
+    iter::successors(Some(largest), |clock| Some(clock / 2.0)).take_while(|clock| *clock >= 2.0)
 }
 
 /// The same chase under a clock that much faster. A power of two changes no digit: each walk takes

@@ -11,6 +11,9 @@ use crate::inputs::scenes;
 /// A stream that no comparison draws from.
 pub const STREAM: u64 = 1 << 17;
 
+/// So many chases for one that is close.
+const CLOSE: u64 = 5;
+
 /// The numbers, then what 0 and 13 are made of.
 pub const COLUMNS: [(&str, &[End]); 12] = [
     ("found", &[End::First, End::Later, End::Opposite, End::Other]),
@@ -60,7 +63,29 @@ pub fn run(count: u64) {
         RULES.iter().zip(tables).for_each(|(rule, table)| print(kind.name, rule, table));
     }
     second.iter().for_each(SecondSolves::print);
+    close(count / CLOSE);
     smallest::show_all();
+}
+
+/// The same of chases at 10 m to 1 km, in which a smaller sphere's clock may begin after the meeting.
+fn close(count: u64) {
+    println!("\n{count} chases, 10 m to 1 km apart");
+    let mut second = SecondSolves::both();
+    let mut table = [[0; KINDS]; NAMES.len()];
+    let mut random = Random::new(STREAM + 1);
+    for _ in 0..count {
+        let scene = scenes::close(&mut random);
+        for second in &mut second {
+            let ended = ended(second.kind, &scene);
+            if second.is_of_meeting() {
+                table[row(ended.first)][ended.now as usize] += 1;
+            }
+            second.meet(&scene, &ended);
+        }
+    }
+    print(second[0].kind.name, "now", &table);
+    second[0].print_early();
+    second[1].print_in_turn();
 }
 
 /// Shares of a row in percent.

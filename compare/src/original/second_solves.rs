@@ -40,6 +40,9 @@ const CLOCKS: [Method; 9] = [
     Method::Clocks(&[1048576.0]),
 ];
 
+/// Of all walks to a meeting that end in 13.
+const EARLY: [Method; 2] = [Method::Early, IN_TURN];
+
 /// Some walks and how they are solved again.
 struct Walks {
     methods: &'static [Method],
@@ -108,7 +111,7 @@ const INVERSE: Law = Law {
 
 /// The second solves of one kind of walk.
 pub struct SecondSolves {
-    kind: &'static Kind,
+    pub kind: &'static Kind,
     swinging: Walks,
     clocks: Walks,
     lost: Walks,
@@ -120,6 +123,8 @@ pub struct SecondSolves {
     /// Chases whose own ship is faster, by how long the meeting can take at most.
     latest: Rows<Ends>,
     late: Walks,
+    /// Those that end in 13, by the clocks that begin no later than the two can meet.
+    early: Walks,
 }
 
 impl SecondSolves {
@@ -136,6 +141,7 @@ impl SecondSolves {
             needing: [const { None }; SPHERES.len() + 1],
             latest: [[0; KINDS]; NAMES.len()],
             late: Walks::new(&LOST),
+            early: Walks::new(&EARLY),
         };
         let [_, intercept, longest] = &WALKS;
         [new(intercept, &SWINGING, OWN_FASTER), new(longest, &SWINGING[..3], INVERSE)]
@@ -158,6 +164,9 @@ impl SecondSolves {
             End::Closing | End::Astray => drop(self.lost.meet(kind, scene, row, first)),
             End::First => drop(self.found.meet(kind, scene, row, first)),
             _ => (),
+        }
+        if ended.now.is_thirteen() {
+            self.early.meet(kind, scene, row, first);
         }
         self.meet_latest(scene, ended.now, first);
     }
@@ -190,9 +199,30 @@ impl SecondSolves {
         self.print_swinging();
         self.print_clocks();
         self.print_others();
-        if self.swinging.methods.len() == SWINGING.len() {
+        if self.is_of_meeting() {
             self.print_latest();
+            self.print_early();
         }
+    }
+
+    /// The walk to a meeting alone begins at a tenth of a second of whatever clock.
+    pub fn is_of_meeting(&self) -> bool {
+        self.swinging.methods.len() == SWINGING.len()
+    }
+
+    pub fn print_early(&self) {
+        let name = self.kind.name;
+        self.early.print(
+            &format!("`{name}`, 13: the radius over the largest power of two in time, then halves"),
+            "to the meeting, walks, 1, 2, 3, 4, 8, first, over 0.4 s, over 1 s, over 60 s, \
+             greatest s, 256, 4096, 65536, 1048576, first, over 0.4 s, over 1 s, over 60 s, \
+             greatest s",
+            |row| {
+                let within = [1, 2, 3, 4, 8].map(|solves| row[0].within(solves));
+                let early = [within.to_vec(), vec![row[0].first()], row[0].apart()].concat();
+                [early, in_turn(&row[1])].concat()
+            },
+        );
     }
 
     fn print_swinging(&self) {
@@ -224,7 +254,7 @@ impl SecondSolves {
         );
     }
 
-    fn print_clocks(&self) {
+    pub fn print_in_turn(&self) {
         let name = self.kind.name;
         self.swinging.print(
             &format!("`{name}`, 13 that swings: the radius over these in turn"),
@@ -232,6 +262,11 @@ impl SecondSolves {
              60 s, greatest s",
             |row| in_turn(&row[1]),
         );
+    }
+
+    fn print_clocks(&self) {
+        let name = self.kind.name;
+        self.print_in_turn();
         for (spheres, input) in (1..).zip(&self.needing) {
             if let Some(input) = input {
                 println!("\nThe first that needs {spheres}, within eight days:\n{input}");
