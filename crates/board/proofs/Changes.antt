@@ -7,32 +7,34 @@ use mathlib.Core.Path.{_≡_, refl, sym, ap, _∙_}
 use lib.ListN.{length, take, drop, getD, drop-of-length-le}
 use lib.Seq.{drop-cons, length-take-le, getD-take}
 use borrow.Author.Tests.{lt-ltb, le-ltb, eq-eqb, ne-eqb}
-use Rattle.board.specs.declared.targets.Held.{Held}
-use Rattle.board.specs.declared.targets.Target.{Target}
-use Rattle.board.specs.declared.targets.Targets.{Targets}
-use Rattle.board.specs.declared.targets.Lined.the-variants.{Bare}
-use Rattle.board.specs.declared.targets.Found.{Found}
-use Rattle.board.specs.declared.targets.Found.the-variants.{Nothing, There}
-use Rattle.board.specs.declared.targets.Spot.{Spot}
-use Rattle.board.specs.declared.targets.Spot.the-variants.{At, Before}
-use Rattle.board.specs.declared.targets.Sought.{Sought}
-use Rattle.board.specs.declared.targets.Change.{Change}
-use Rattle.board.specs.declared.targets.Change.the-variants.{Stays, Removes, Sweeps}
-use Rattle.board.specs.declared.state.Board.{Board}
-use Rattle.board.specs.declared.call.Coordinates.{Coordinates}
-use Rattle.board.specs.declared.call.Fix.{Fix}
-use Rattle.board.specs.declared.call.Call.{Call}
-use Rattle.board.specs.declared.call.Call.the-variants.{Report, Withdraw, OwnShip, Track, Solve}
-use Rattle.board.specs.declared.call.Answer.{Answer}
-use Rattle.board.specs.Targets.{mostTargets, find, place, bared, bareTarget, spotIn, spotFrom, atMost, listed}
-use Rattle.board.specs.Call.{vehicle, named}
-use Rattle.board.specs.Board.{answer, after, accepted, targetsAfter, put, swept, leaves, lined, withLine, ownAfter, trackAfter, raised}
-use Rattle.board.specs.Code.{plain, cut}
-use Rattle.board.specs.History.{accepts}
+use Rattle.plain.specs.declared.targets.Held.{Held}
+use Rattle.plain.specs.declared.targets.Target.{Target}
+use Rattle.plain.specs.declared.targets.Targets.{Targets}
+use Rattle.plain.specs.declared.targets.Lined.the-variants.{Bare}
+use Rattle.plain.specs.declared.targets.Found.{Found}
+use Rattle.plain.specs.declared.targets.Found.the-variants.{Nothing, There}
+use Rattle.targets.specs.declared.Spot.{Spot}
+use Rattle.targets.specs.declared.Spot.the-variants.{At, Before}
+use Rattle.targets.specs.declared.Sought.{Sought}
+use Rattle.targets.specs.declared.Change.{Change}
+use Rattle.targets.specs.declared.Change.the-variants.{Stays, Removes, Sweeps}
+use Rattle.plain.specs.declared.state.Board.{Board}
+use Rattle.plain.specs.declared.call.Coordinates.{Coordinates}
+use Rattle.plain.specs.declared.call.Fix.{Fix}
+use Rattle.plain.specs.declared.call.Call.{Call}
+use Rattle.plain.specs.declared.call.Call.the-variants.{Report, Withdraw, OwnShip, Track, Solve}
+use Rattle.plain.specs.declared.call.Answer.{Answer}
+use Rattle.plain.specs.Targets.{mostTargets, find, place, bared, bareTarget, atMost, listed}
+use Rattle.targets.specs.Slots.{spotIn, spotFrom}
+use Rattle.plain.specs.Call.{vehicle, named}
+use Rattle.plain.specs.Board.{answer, after, accepted, targetsAfter, put, swept, leaves, lined, withLine, ownAfter, trackAfter, raised}
+use Rattle.plain.specs.Code.{plain, cut}
+use Rattle.plain.specs.History.{accepts}
 use Rattle.board.specs.Change.{nameOf, Seeks, RightAnswer, entriesAfter, countAfter, changed, Within, placing, RightChange}
-use Rattle.board.proofs.Arrays.{absent, held-below}
-use Rattle.board.proofs.Slots.{at-most-le, at-most-same, stored-is, inserted-is, removed-is, removed-not, take-bared, counted-is, removed-fits, bared-fits, absent-fits}
-use Rattle.board.proofs.Played.{heard-accepted}
+use Rattle.targets.proofs.Arrays.{absent, held-below}
+use Rattle.targets.proofs.Slots.{stored-is, inserted-is, removed-is, removed-not, take-bared, counted-is, removed-fits, bared-fits, absent-fits}
+use Rattle.plain.proofs.Listed.{at-most-le, at-most-same}
+use Rattle.plain.proofs.Played.{heard-accepted}
 
 -- ---- a search has passed i of the first n entries
 

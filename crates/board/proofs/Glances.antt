@@ -8,33 +8,35 @@ use mathlib.Core.Option.{none}
 use mathlib.Core.Path.{_≡_, refl, sym, ap, _∙_}
 use lib.ListN.{length, take, set, length-set, length-append, length-drop, length-replicate}
 use lib.Seq.{take-at, take-set-lt, map-set-same, length-take-le}
-use Rattle.board.specs.declared.line.Line.{Line}
-use Rattle.board.specs.declared.targets.Target.{Target}
-use Rattle.board.specs.declared.targets.Lined.the-variants.{Bare}
-use Rattle.board.specs.declared.targets.Spot.{Spot}
-use Rattle.board.specs.declared.targets.Spot.the-variants.{At, Before}
+use Rattle.plain.specs.declared.line.Line.{Line}
+use Rattle.plain.specs.declared.targets.Target.{Target}
+use Rattle.plain.specs.declared.targets.Lined.the-variants.{Bare}
+use Rattle.targets.specs.declared.Spot.{Spot}
+use Rattle.targets.specs.declared.Spot.the-variants.{At, Before}
 use Rattle.board.specs.declared.glance.Setting.{Setting}
 use Rattle.board.specs.declared.glance.Hint.{Hint}
 use Rattle.board.specs.declared.glance.Hint.the-variants.{Stays, Sweeps}
-use Rattle.board.specs.declared.call.Coordinates.{Coordinates}
-use Rattle.board.specs.declared.call.Fix.{Fix}
-use Rattle.board.specs.declared.call.Call.{Call}
-use Rattle.board.specs.declared.call.Call.the-variants.{Report, Withdraw, OwnShip, Track, Solve}
-use Rattle.board.specs.declared.call.Answer.{Answer}
-use Rattle.board.specs.declared.call.Answer.the-variants.{Done, Solved, Refused}
-use Rattle.board.specs.declared.questions.Said.{Said}
-use Rattle.board.specs.declared.questions.Said.the-variants.{Yes, No}
-use Rattle.board.specs.Targets.{mostTargets, identityOf, identities, atMost, listed, spotIn, spotFrom, bareTarget, bared}
-use Rattle.board.specs.Call.{vehicle, named}
-use Rattle.board.specs.Questions.{ask, askFix, identityAsked, fixFiniteAsked, fixUnitAsked, speedAsked, askEnds, endsFiniteAsked, endsUnitAsked, circleAsked}
-use Rattle.board.specs.Board.{Plain, answer, after, outcome, accepted, targetsAfter, put, swept, leaves}
-use Rattle.board.specs.Code.{plain}
-use Rattle.board.specs.History.{accepts}
+use Rattle.plain.specs.declared.call.Coordinates.{Coordinates}
+use Rattle.plain.specs.declared.call.Fix.{Fix}
+use Rattle.plain.specs.declared.call.Call.{Call}
+use Rattle.plain.specs.declared.call.Call.the-variants.{Report, Withdraw, OwnShip, Track, Solve}
+use Rattle.plain.specs.declared.call.Answer.{Answer}
+use Rattle.plain.specs.declared.call.Answer.the-variants.{Done, Solved, Refused}
+use Rattle.plain.specs.declared.questions.Said.{Said}
+use Rattle.plain.specs.declared.questions.Said.the-variants.{Yes, No}
+use Rattle.plain.specs.Targets.{mostTargets, atMost, listed, bareTarget, bared}
+use Rattle.targets.specs.Slots.{identityOf, identities, spotIn, spotFrom}
+use Rattle.plain.specs.Call.{vehicle, named}
+use Rattle.plain.specs.Questions.{ask, askFix, identityAsked, fixFiniteAsked, fixUnitAsked, speedAsked, askEnds, endsFiniteAsked, endsUnitAsked, circleAsked}
+use Rattle.plain.specs.Board.{Plain, answer, after, outcome, accepted, targetsAfter, put, swept, leaves}
+use Rattle.plain.specs.Code.{plain}
+use Rattle.plain.specs.History.{accepts}
 use Rattle.board.specs.Glance.{boardOf, Under, Turns, Glanced, unlessRefused, putAt, atReport, setBy, atSetting, glance}
-use Rattle.board.proofs.Arrays.{absent, length-map, held-below}
-use Rattle.board.proofs.Slots.{at-most-le, found-at, take-bared}
-use Rattle.board.proofs.Spots.{stands-at}
-use Rattle.board.proofs.Played.{heard-refused}
+use Rattle.targets.proofs.Arrays.{absent, length-map, held-below}
+use Rattle.targets.proofs.Slots.{found-at, take-bared}
+use Rattle.plain.proofs.Listed.{at-most-le}
+use Rattle.targets.proofs.Spots.{stands-at}
+use Rattle.plain.proofs.Played.{heard-refused}
 
 -- ---- identities
 

@@ -5,21 +5,22 @@ use mathlib.Core.List.{List, _∷_, _++_, map}
 use mathlib.Core.Path.{_≡_}
 use lib.Ieee.{Float}
 use lib.ListN.{length, take, drop, set}
-use Rattle.board.specs.declared.targets.Target.{Target}
-use Rattle.board.specs.declared.targets.Targets.{Targets}
-use Rattle.board.specs.declared.targets.Found.{Found}
-use Rattle.board.specs.declared.targets.Spot.{Spot}
-use Rattle.board.specs.declared.targets.Spot.the-variants.{At, Before}
-use Rattle.board.specs.declared.targets.Sought.{Sought}
-use Rattle.board.specs.declared.targets.Change.{Change}
-use Rattle.board.specs.declared.targets.Change.the-variants.{Stays, Stores, Inserts, Removes, Sweeps}
-use Rattle.board.specs.declared.state.Own.{Own}
-use Rattle.board.specs.declared.state.Tracked.{Tracked}
-use Rattle.board.specs.declared.call.Call.{Call}
-use Rattle.board.specs.declared.call.Call.the-variants.{Report, Withdraw, OwnShip, Track, Solve}
-use Rattle.board.specs.declared.call.Answer.{Answer}
-use Rattle.board.specs.Targets.{mostTargets, find, spotFrom, bareTarget, atMost, listed}
-use Rattle.board.specs.Board.{answer, targetsAfter}
+use Rattle.plain.specs.declared.targets.Target.{Target}
+use Rattle.plain.specs.declared.targets.Targets.{Targets}
+use Rattle.plain.specs.declared.targets.Found.{Found}
+use Rattle.targets.specs.declared.Spot.{Spot}
+use Rattle.targets.specs.declared.Spot.the-variants.{At, Before}
+use Rattle.targets.specs.declared.Sought.{Sought}
+use Rattle.targets.specs.declared.Change.{Change}
+use Rattle.targets.specs.declared.Change.the-variants.{Stays, Stores, Inserts, Removes, Sweeps}
+use Rattle.plain.specs.declared.state.Own.{Own}
+use Rattle.plain.specs.declared.state.Tracked.{Tracked}
+use Rattle.plain.specs.declared.call.Call.{Call}
+use Rattle.plain.specs.declared.call.Call.the-variants.{Report, Withdraw, OwnShip, Track, Solve}
+use Rattle.plain.specs.declared.call.Answer.{Answer}
+use Rattle.plain.specs.Targets.{mostTargets, find, bareTarget, atMost, listed}
+use Rattle.targets.specs.Slots.{spotFrom}
+use Rattle.plain.specs.Board.{answer, targetsAfter}
 
 -- the identity that a call names, or 0
 abbrev pub nameOf : Call → ℕ

@@ -4,25 +4,26 @@ use mathlib.Core.Bool.{cond}
 use mathlib.Core.List.{List, map}
 use mathlib.Core.Path.{_≡_}
 use lib.ListN.{length, take, set}
-use Rattle.board.specs.declared.targets.Lined.the-variants.{Bare}
-use Rattle.board.specs.declared.targets.Target.{Target}
-use Rattle.board.specs.declared.targets.Spot.{Spot}
-use Rattle.board.specs.declared.targets.Spot.the-variants.{At, Before}
-use Rattle.board.specs.declared.state.Board.{Board}
-use Rattle.board.specs.declared.call.Fix.{Fix}
-use Rattle.board.specs.declared.call.Call.{Call}
-use Rattle.board.specs.declared.call.Call.the-variants.{Report, Withdraw, OwnShip, Track, Solve}
-use Rattle.board.specs.declared.call.Answer.{Answer}
-use Rattle.board.specs.declared.call.Answer.the-variants.{Done}
+use Rattle.plain.specs.declared.targets.Lined.the-variants.{Bare}
+use Rattle.plain.specs.declared.targets.Target.{Target}
+use Rattle.targets.specs.declared.Spot.{Spot}
+use Rattle.targets.specs.declared.Spot.the-variants.{At, Before}
+use Rattle.plain.specs.declared.state.Board.{Board}
+use Rattle.plain.specs.declared.call.Fix.{Fix}
+use Rattle.plain.specs.declared.call.Call.{Call}
+use Rattle.plain.specs.declared.call.Call.the-variants.{Report, Withdraw, OwnShip, Track, Solve}
+use Rattle.plain.specs.declared.call.Answer.{Answer}
+use Rattle.plain.specs.declared.call.Answer.the-variants.{Done}
 use Rattle.board.specs.declared.glance.Setting.{Setting}
 use Rattle.board.specs.declared.glance.Hint.{Hint}
 use Rattle.board.specs.declared.glance.Hint.the-variants.{Stays, Puts, Sweeps, Unclear}
-use Rattle.board.specs.Call.{vehicle}
-use Rattle.board.specs.Questions.{ask, identityAsked, askFix, askEnds}
-use Rattle.board.specs.Targets.{mostTargets, atMost, identityOf, bareTarget, spotIn}
-use Rattle.board.specs.Board.{answer, after, ownAfter, trackAfter}
-use Rattle.board.specs.Code.{plain}
-use Rattle.board.specs.History.{accepts}
+use Rattle.plain.specs.Call.{vehicle}
+use Rattle.plain.specs.Questions.{ask, identityAsked, askFix, askEnds}
+use Rattle.plain.specs.Targets.{mostTargets, atMost, bareTarget}
+use Rattle.targets.specs.Slots.{identityOf, spotIn}
+use Rattle.plain.specs.Board.{answer, after, ownAfter, trackAfter}
+use Rattle.plain.specs.Code.{plain}
+use Rattle.plain.specs.History.{accepts}
 
 -- ---- a board in its parts
 

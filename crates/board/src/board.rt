@@ -1,51 +1,46 @@
 // The calls of a board. The board goes in by value and comes back beside the answer.
 ghost use mathlib.Core.Path.{_≡_};
-ghost use Rattle.board.specs.Board as spec;
+ghost use Rattle.plain.specs.Board as spec;
 ghost use Rattle.board.specs.Change as code;
 ghost use mathlib.Core.Bool.{not};
 ghost use Prim.Native.Nat.{_≤_};
-ghost use Rattle.board.specs.Code.{plain, Answers, Demanded};
-ghost use Rattle.board.specs.History.{accepts};
-ghost use Rattle.board.specs.Targets.{mostTargets};
-use crate::call::Answer;
-use crate::call::Call;
-use crate::call::Coordinates;
-use crate::call::Fix;
-use crate::call::ends;
-use crate::call::vehicle;
-use crate::line::raise;
-use crate::questions::ask;
-use crate::questions::ask_ends;
-use crate::questions::ask_fix;
-use crate::questions::held_asked;
-use crate::questions::identity_asked;
-use crate::questions::radius_asked;
-use crate::questions::room_asked;
-use crate::questions::see;
-use crate::questions::solved;
-use crate::state::Board;
-use crate::state::Own;
-use crate::state::Tracked;
-use crate::targets::Change;
-use crate::targets::Found;
-use crate::targets::Held;
-use crate::targets::Lined;
-use crate::targets::MOST_TARGETS;
-use crate::targets::Sought;
-use crate::targets::Spot;
-use crate::targets::Target;
-use crate::targets::Targets;
-use crate::targets::bared;
-use crate::targets::closed;
-use crate::targets::empty;
-use crate::targets::inserted;
-use crate::targets::least;
-
-// A board beside what it answered.
-pub struct Answered {
-    pub board: Board,
-    pub answer: Answer,
-}
+ghost use Rattle.plain.specs.Code.{plain, Answers, Demanded};
+ghost use Rattle.plain.specs.History.{accepts};
+ghost use Rattle.plain.specs.Targets.{mostTargets};
+use plain::call::Answer;
+use plain::call::Call;
+use plain::call::Coordinates;
+use plain::call::Fix;
+use plain::state::Answered;
+use plain::state::Board;
+use plain::state::Own;
+use plain::state::Tracked;
+use plain::targets::Found;
+use plain::targets::Held;
+use plain::targets::Lined;
+use plain::targets::MOST_TARGETS;
+use plain::targets::Target;
+use plain::targets::Targets;
+use questions::ask;
+use questions::ask_ends;
+use questions::ask_fix;
+use questions::call::ends;
+use questions::call::vehicle;
+use questions::held_asked;
+use questions::identity_asked;
+use questions::line::raise;
+use questions::radius_asked;
+use questions::room_asked;
+use questions::see;
+use questions::solved;
+use targets::Change;
+use targets::Sought;
+use targets::Spot;
+use targets::bared;
+use targets::closed;
+use targets::empty;
+use targets::inserted;
+use targets::least;
 
 // A fresh board: only the radius. Refused where the radius is not finite and above zero.
 pub fn fresh(radius: f64) -> Answered

@@ -1,8 +1,8 @@
 // What is handed to the calls: another thing each turn, so that no turn's work can be saved.
 ghost use Prim.Native.Nat.{_<_};
-use board::call::Coordinates;
-use board::call::Fix;
-use board::targets::MOST_TARGETS;
+use plain::call::Coordinates;
+use plain::call::Fix;
+use plain::targets::MOST_TARGETS;
 
 // The most targets of a board.
 pub const HELD: u64 = MOST_TARGETS as u64;

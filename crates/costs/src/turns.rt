@@ -3,11 +3,6 @@ use crate::inputs::HELD;
 use crate::inputs::coordinates;
 use crate::inputs::fix;
 use crate::inputs::identity;
-use board::asking::Choice;
-use board::asking::mean;
-use board::asking::pick;
-use board::asking::total;
-use board::board::Answered;
 use board::board::fresh;
 use board::board::own_ship;
 use board::board::refuses;
@@ -15,10 +10,15 @@ use board::board::report;
 use board::board::solve;
 use board::board::track;
 use board::board::withdraw;
-use board::call::Answer;
-use board::state::Board;
 use jord::positions::NVector;
-use spherical::mean::Mean;
+use means::Mean;
+use plain::asking::Choice;
+use plain::call::Answer;
+use plain::state::Answered;
+use plain::state::Board;
+use targets::asking::mean;
+use targets::asking::pick;
+use targets::asking::total;
 
 // The earth's radius in metres.
 const EARTH: f64 = 6371000.8;
@@ -81,7 +81,7 @@ fn of_mean(mean: Mean) -> u64 {
 
 fn of_position(p: NVector) -> u64 {
     let v = p.as_vec3();
-    float::bits::to_bits(v.x)
+    patterns::to_bits(v.x)
 }
 
 // The identity, or the refusal's number.

@@ -11,10 +11,10 @@ use lib.Ieee.Exact.{HasValue}
 use lib.Ieee.Fits.{mul-fits}
 use lib.Ieee.Nearest.{closest, closest-same}
 use lib.Ieee.Positive.{num, den, den-pos}
-use Rattle.float.specs.Bits.{signBit, unpacked}
-use Rattle.float.specs.declared.bits.Unpacked.{Unpacked}
-use Rattle.float.proofs.Value.{HasParts, parts-value}
-use Rattle.float.specs.Operators.{whole}
+use Rattle.patterns.specs.Bits.{signBit, unpacked}
+use Rattle.patterns.specs.declared.Unpacked.{Unpacked}
+use Rattle.patterns.proofs.Value.{HasParts, parts-value}
+use Rattle.patterns.specs.Operators.{whole}
 use Rattle.duration.specs.Duration.{second, hour, limit, limitNanoseconds, zeroOrMore, belowLimit, product, productBelow, halfAway, exactNanoseconds}
 use Rattle.duration.proofs.Order.{Within, within, zero-or-more-times}
 use Rattle.duration.proofs.Questions.{yes}

@@ -7,7 +7,7 @@ use lib.Dec.{eqb}
 use lib.Ieee.{Float, le, lt}
 use lib.Ieee.Nearest.{closest}
 use lib.Ieee.Positive.{num, den}
-use Rattle.float.specs.Operators.{_⊕_, _⊗_, _⊘_, whole}
+use Rattle.patterns.specs.Operators.{_⊕_, _⊗_, _⊘_, whole}
 use Rattle.duration.specs.declared.Converted.{Converted}
 use Rattle.duration.specs.declared.Converted.the-variants.{Nanoseconds, Negative, TooLong}
 

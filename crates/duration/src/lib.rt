@@ -65,7 +65,7 @@ pub fn from_seconds(t: f64) -> Converted
     if !(t < LIMIT) {
         return Converted::TooLong;
     }
-    let p = float::bits::unpack(float::bits::to_bits(t));
+    let p = patterns::unpack(patterns::to_bits(t));
     let digits = p.digits;
     let place = p.place;
     Converted::Nanoseconds(nearest_even(digits, place))
@@ -82,7 +82,7 @@ pub fn from_hours(h: f64) -> Converted
     if !(product < LIMIT_NANOSECONDS) {
         return Converted::TooLong;
     }
-    let p = float::bits::unpack(float::bits::to_bits(product));
+    let p = patterns::unpack(patterns::to_bits(product));
     let digits = p.digits;
     let place = p.place;
     Converted::Nanoseconds(half_away(digits, place))

@@ -1,51 +1,51 @@
 // The float ground.
 ghost use mathlib.Core.Path.{_≡_};
 ghost use lib.Ieee.{binary64, ofBits, toBits, rem};
-ghost use Rattle.float.specs.Bits as bits;
+ghost use Rattle.patterns.specs.Bits as bits;
 ghost use Rattle.float.specs.Degrees as degrees;
-ghost use Rattle.float.specs.Root as root;
+ghost use Rattle.roots.specs.Root as root;
 ghost use Rattle.float.specs.Trig as trig;
 
 #[no_mangle]
 pub extern "C" fn plot_to_bits(x: f64) -> u64
     ensures { λ r. ⌜ r ≡ toBits binary64 x ⌝ }
 {
-    float::bits::to_bits(x)
+    patterns::to_bits(x)
 }
 
 #[no_mangle]
 pub extern "C" fn plot_from_bits(pattern: u64) -> f64
     ensures { λ r. ⌜ r ≡ ofBits binary64 pattern ⌝ }
 {
-    float::bits::from_bits(pattern)
+    patterns::from_bits(pattern)
 }
 
 #[no_mangle]
 pub extern "C" fn plot_sign_bit(x: f64) -> bool
     ensures { λ r. ⌜ r ≡ bits.signBit x ⌝ }
 {
-    float::bits::sign_bit(x)
+    patterns::sign_bit(x)
 }
 
 #[no_mangle]
 pub extern "C" fn plot_magnitude(x: f64) -> f64
     ensures { λ r. ⌜ r ≡ bits.magnitude x ⌝ }
 {
-    float::bits::magnitude(x)
+    patterns::magnitude(x)
 }
 
 #[no_mangle]
 pub extern "C" fn plot_sqrt(x: f64) -> f64
     ensures { λ r. ⌜ r ≡ root.sqrt x ⌝ }
 {
-    float::root::sqrt(x)
+    roots::sqrt(x)
 }
 
 #[no_mangle]
 pub extern "C" fn plot_rem(x: f64, y: f64) -> f64
     ensures { λ r. ⌜ r ≡ rem binary64 x y ⌝ }
 {
-    float::remainder::rem(x, y)
+    remainders::rem(x, y)
 }
 
 #[no_mangle]

@@ -4,8 +4,8 @@ use mathlib.Core.Bool.{Bool, not, _||_}
 use lib.Dec.{T}
 use lib.Ieee.{Float, nan, inf, fin, lt, isNan, div, ofBits, ofInt, binary64, fits}
 use lib.Ieee.Fits.{cond-fits, nan-fits, neg-fits, add-fits, sub-fits}
-use Rattle.float.specs.Bits.{signBit, magnitude}
-use Rattle.float.specs.Operators.{_⊕_, _⊖_, _⊘_, whole, pi}
+use Rattle.patterns.specs.Bits.{signBit, magnitude}
+use Rattle.patterns.specs.Operators.{_⊕_, _⊖_, _⊘_, whole, pi}
 use Rattle.float.specs.Trig.{atan2, negatedIf, subtractedIf, arcBound, arc, arcSeries, ratio}
 
 pub nan-left : (x : Float) → div binary64 (ofBits binary64 0) (ofBits binary64 0) ≡ atan2 nan x

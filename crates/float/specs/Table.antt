@@ -3,8 +3,7 @@ use mathlib.Core.Path.{_≡_, refl}
 use mathlib.Core.Bool.{Bool, true, false}
 use lib.IntN.{pos, negsuc}
 use lib.Ieee.{Float, nan, inf, fin, binary64, mul, div, rem, ofBits, ofInt}
-use Rattle.float.specs.Operators.{pi, whole}
-use Rattle.float.specs.Root.{sqrt}
+use Rattle.patterns.specs.Operators.{pi, whole}
 use Rattle.float.specs.Trig.{sin, cos, atan2}
 use Rattle.float.specs.Degrees.{toRadians, toDegrees}
 
@@ -14,38 +13,6 @@ zeroOf s = fin s 0 (pos 0)
 
 abbrev unitOf : Bool → Float
 unitOf s = fin s 1 (pos 0)
-
-pub root-of-smallest : sqrt (fin false 1 (negsuc 1073)) ≡ fin false 1 (negsuc 536)
-unfolding sqrt ofBits
-root-of-smallest = refl
-
-pub root-of-minus-zero : sqrt (zeroOf true) ≡ zeroOf true
-unfolding sqrt ofBits
-root-of-minus-zero = refl
-
-pub root-of-zero : sqrt (zeroOf false) ≡ zeroOf false
-unfolding sqrt ofBits
-root-of-zero = refl
-
-pub root-of-infinity : sqrt (inf false) ≡ inf false
-unfolding sqrt ofBits
-root-of-infinity = refl
-
-pub root-of-minus-infinity : sqrt (inf true) ≡ nan
-unfolding sqrt ofBits
-root-of-minus-infinity = refl
-
-pub root-of-minus-one : sqrt (unitOf true) ≡ nan
-unfolding sqrt ofBits
-root-of-minus-one = refl
-
-pub root-of-largest : sqrt (ofBits binary64 0x7fefffffffffffff) ≡ ofBits binary64 0x5fefffffffffffff
-unfolding sqrt ofBits
-root-of-largest = refl
-
-pub root-of-two : sqrt (ofBits binary64 0x4000000000000000) ≡ ofBits binary64 0x3ff6a09e667f3bcd
-unfolding sqrt ofBits
-root-of-two = refl
 
 pub cosine-of-pi : cos pi ≡ unitOf true
 unfolding cos ofBits

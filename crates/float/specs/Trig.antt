@@ -2,8 +2,8 @@
 use Prim.Native.Nat.{ℕ, zero, suc, _+_, _*_}
 use mathlib.Core.Bool.{Bool, false, _||_, cond}
 use lib.Ieee.{Float, nan, inf, binary64, rem, neg, lt, eq, isNan, ofBits, ofInt, add, sub, mul, div}
-use Rattle.float.specs.Bits.{magnitude, signBit}
-use Rattle.float.specs.Operators.{_⊕_, _⊖_, _⊗_, _⊘_, whole, pi}
+use Rattle.patterns.specs.Bits.{magnitude, signBit}
+use Rattle.patterns.specs.Operators.{_⊕_, _⊖_, _⊗_, _⊘_, whole, pi}
 
 -- ---- Horner's rule
 abbrev pub factorial : ℕ → ℕ

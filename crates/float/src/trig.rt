@@ -1,9 +1,9 @@
 // Sine, cosine and atan2 in document 01's words, operation by operation.
 ghost use mathlib.Core.Path.{_≡_};
 ghost use Rattle.float.specs.Trig as spec;
-use crate::bits::magnitude;
-use crate::bits::sign_bit;
-use crate::remainder::rem;
+use patterns::magnitude;
+use patterns::sign_bit;
+use remainders::rem;
 
 pub const PI: f64 = 3.141592653589793;
 

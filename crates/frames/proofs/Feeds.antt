@@ -11,11 +11,11 @@ use lib.ListN.{length, take, drop, getD, length-drop, length-append, length-take
 use lib.Seq.{take-all, take-nil, take-add, getD-drop, drop-drop, length-take-le}
 use Rattle.hex.specs.Write.{over, Wrote}
 use Rattle.hex.proofs.Write.{wrote-nothing, then, as-length}
-use Rattle.frames.specs.declared.session.Session.{Session}
+use Rattle.sessions.specs.declared.session.Session.{Session}
 use Rattle.frames.specs.declared.stream.Fed.{Fed}
 use Rattle.frames.specs.declared.stream.Stream.{Stream}
 use Rattle.frames.specs.Line.{kept, least, Passes, EndsAt, Joined}
-use Rattle.frames.specs.Session.{plainOf}
+use Rattle.sessions.specs.Session.{plainOf}
 use Rattle.frames.specs.Stream.{room, waits, Model, fedState, fedAsks, view, Feeding, GoingOn}
 use Rattle.frames.specs.Whole.{newline}
 use Rattle.frames.proofs.Pieces.{split, state-append, asks-append}

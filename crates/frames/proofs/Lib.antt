@@ -1,9 +1,5 @@
-pub mod Lines
-pub mod Sizes
-pub mod Sessions
 pub mod Texts
 pub mod Pieces
 pub mod Spans
 pub mod Turns
 pub mod Feeds
-pub mod Quicks

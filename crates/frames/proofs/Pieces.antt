@@ -10,15 +10,15 @@ use borrow.Author.Tests.{lt-ltb}
 use lib.Dec.{eqb}
 use lib.ListN.{length, take, length-append}
 use lib.Seq.{take-all, take-append-le, length-take-le, append-snoc}
-use Rattle.board.specs.Board.{Plain}
-use Rattle.frames.specs.declared.frame.Frame.{Frame}
-use Rattle.frames.specs.Frame.{frameOf}
-use Rattle.frames.specs.Session.{next}
+use Rattle.plain.specs.Board.{Plain}
+use Rattle.wire.specs.declared.frame.Frame.{Frame}
+use Rattle.wire.specs.Frame.{frameOf}
+use Rattle.sessions.specs.Session.{next}
 use Rattle.frames.specs.Whole.{newline, onto, linesOf, Asked, asked, askedBy, Text, Output}
 use Rattle.frames.specs.Line.{kept}
 use Rattle.frames.specs.Stream.{Model, fresh, added, stepped, asks, fedState, fedAsks, lastAsks, endAsks, Ran, joined}
 use Rattle.frames.specs.Stream.Ran.{ends, feeds}
-use Rattle.frames.proofs.Lines.{long-is-no-frame}
+use Rattle.wire.proofs.Lines.{long-is-no-frame}
 use Rattle.frames.proofs.Texts.{text-append, text-by}
 
 -- ---- one piece after another

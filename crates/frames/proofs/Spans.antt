@@ -9,8 +9,8 @@ use borrow.Author.Tests.{lt-ltb, le-ltb, eqb-false}
 use lib.Dec.{eqb}
 use lib.ListN.{length, take, drop, getD}
 use lib.Seq.{getD-take, getD-drop, length-take-le, take-all, take-append-add, paste, take-paste}
-use Rattle.hex.specs.Hex.{allDigits}
-use Rattle.hex.proofs.Read.{digit-from, digits-each, part-length}
+use Rattle.unhex.specs.Digits.{allDigits}
+use Rattle.unhex.proofs.Read.{digit-from, digits-each, part-length}
 use Rattle.frames.specs.Line.{kept, least, NoNewline, Holds, Passes, EndsAt, part}
 use Rattle.frames.specs.Whole.{newline}
 use Rattle.frames.proofs.Pieces.{split}

@@ -2,9 +2,9 @@
 use Prim.Native.Nat.{ℕ}
 use mathlib.Core.List.{List, [], _∷_, _++_, append-assoc, append-nil}
 use mathlib.Core.Path.{_≡_, refl, sym, ap, _∙_, subst}
-use Rattle.frames.specs.declared.reply.Reply.{Reply}
-use Rattle.frames.specs.Reply.{replyDigits}
-use Rattle.frames.specs.Session.{Replied}
+use Rattle.wire.specs.declared.reply.Reply.{Reply}
+use Rattle.wire.specs.Reply.{replyDigits}
+use Rattle.sessions.specs.Session.{Replied}
 use Rattle.frames.specs.Whole.{newline, Asked, AllReplied, written, Text}
 
 written-append : (ys zs : List Reply) → written (ys ++ zs) ≡ written ys ++ written zs

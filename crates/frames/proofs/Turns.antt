@@ -9,26 +9,26 @@ use native.Mathlib.Omega.{arith}
 use borrow.Author.Tests.{ne-eqb, lt-ltb, le-ltb}
 use lib.ListN.{length, take, drop, set, getD, length-drop}
 use lib.Seq.{take-all, take-suc, take-add, length-take-le, getD-take, getD-drop, append-snoc}
-use Rattle.board.specs.Board.{Plain}
+use Rattle.plain.specs.Board.{Plain}
 use Rattle.board.specs.Glance.{settingOf, boardOf}
 use Rattle.board.specs.declared.glance.Setting.{Setting}
 use Rattle.hex.specs.Write.{Put, Wrote}
 use Rattle.hex.proofs.Write.{then, as-length, put-wrote, wrote-byte, wrote-nothing}
-use Rattle.frames.specs.declared.frame.Frame.{Frame}
-use Rattle.frames.specs.declared.reply.Reply.{Reply}
-use Rattle.frames.specs.declared.session.Session.{Session}
-use Rattle.frames.specs.declared.session.Stepped.{Stepped}
+use Rattle.wire.specs.declared.frame.Frame.{Frame}
+use Rattle.wire.specs.declared.reply.Reply.{Reply}
+use Rattle.sessions.specs.declared.session.Session.{Session}
+use Rattle.sessions.specs.declared.session.Stepped.{Stepped}
 use Rattle.frames.specs.declared.stream.InParts.{InParts}
 use Rattle.frames.specs.declared.stream.Stream.{Stream}
-use Rattle.frames.specs.Frame.{frameOf}
-use Rattle.frames.specs.Quick.{sessionOf}
-use Rattle.frames.specs.Reply.{replyDigits}
-use Rattle.frames.specs.Session.{next, plainOf, Stepping}
+use Rattle.wire.specs.Frame.{frameOf}
+use Rattle.sessions.specs.Quick.{sessionOf}
+use Rattle.wire.specs.Reply.{replyDigits}
+use Rattle.sessions.specs.Session.{next, plainOf, Stepping}
 use Rattle.frames.specs.Whole.{newline, Asked, asked, Text}
 use Rattle.frames.specs.Line.{kept, least, part, Passes}
 use Rattle.frames.specs.Stream.{room, Model, stepped, asks, fedState, fedAsks, lastAsks, endAsks, PutReplyLine, Answering, Finishing}
 use Rattle.frames.proofs.Pieces.{split, state-append, asks-append, added-cut, frame-cut}
-use Rattle.frames.proofs.Sizes.{reply-short}
+use Rattle.wire.proofs.Sizes.{reply-short}
 use Rattle.frames.proofs.Texts.{text-append, text-by, text-none, text-one}
 
 -- what stands over a page from its start: a text of what has been asked

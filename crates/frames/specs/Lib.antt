@@ -1,8 +1,4 @@
-pub mod Frame
-pub mod Reply
-pub mod Session
 pub mod Whole
 pub mod Line
 pub mod Stream
 pub mod Table
-pub mod Quick

@@ -6,9 +6,9 @@ use mathlib.Core.Logic.{_≢_}
 use mathlib.Core.Path.{_≡_}
 use lib.Dec.{ltb}
 use lib.ListN.{length, take, drop, getD}
-use Rattle.hex.specs.Hex.{allDigits}
+use Rattle.unhex.specs.Digits.{allDigits}
 use Rattle.frames.specs.declared.line.LineSpan.{LineSpan}
-use Rattle.frames.specs.Frame.{mostFrameDigits}
+use Rattle.wire.specs.Frame.{mostFrameDigits}
 use Rattle.frames.specs.Whole.{newline}
 
 -- how many bytes of a line are kept: one more than the longest frame has, so that a longer line is no frame

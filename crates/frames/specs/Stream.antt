@@ -7,19 +7,19 @@ use mathlib.Core.Logic.{_≢_}
 use mathlib.Core.Path.{_≡_}
 use lib.Dec.{eqb, ltb}
 use lib.ListN.{length, take, getD}
-use Rattle.board.specs.Board.{Plain}
+use Rattle.plain.specs.Board.{Plain}
 use Rattle.hex.specs.Write.{Wrote}
-use Rattle.frames.specs.declared.frame.Frame.{Frame}
-use Rattle.frames.specs.declared.reply.Reply.{Reply}
-use Rattle.frames.specs.declared.session.Session.{Session}
+use Rattle.wire.specs.declared.frame.Frame.{Frame}
+use Rattle.wire.specs.declared.reply.Reply.{Reply}
+use Rattle.sessions.specs.declared.session.Session.{Session}
 use Rattle.frames.specs.declared.stream.InParts.{InParts}
 use Rattle.frames.specs.declared.stream.Fed.{Fed}
 use Rattle.frames.specs.declared.stream.Stream.{Stream}
-use Rattle.frames.specs.Frame.{frameOf}
+use Rattle.wire.specs.Frame.{frameOf}
 use Rattle.frames.specs.Line.{kept}
-use Rattle.frames.specs.Reply.{replyDigits, mostReplyDigits}
-use Rattle.frames.specs.Quick.{sessionOf}
-use Rattle.frames.specs.Session.{next, plainOf}
+use Rattle.wire.specs.Reply.{replyDigits, mostReplyDigits}
+use Rattle.sessions.specs.Quick.{sessionOf}
+use Rattle.sessions.specs.Session.{next, plainOf}
 use Rattle.frames.specs.Whole.{newline, Asked, asked, Text}
 
 -- the room that any reply fits, its newline with it

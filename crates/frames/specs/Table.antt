@@ -2,12 +2,13 @@
 use mathlib.Core.List.{[], _∷_}
 use mathlib.Core.Path.{_≡_, refl}
 use lib.Ieee.{nan, binary64, ofBits, toBits}
-use Rattle.board.specs.declared.call.Call.the-variants.{Withdraw}
-use Rattle.hex.specs.Hex.{allDigits, hexAt, digits}
-use Rattle.frames.specs.declared.frame.Frame.the-variants.{Fresh, Told, Mean, NotAFrame}
-use Rattle.frames.specs.declared.reply.Reply.the-variants as reply
-use Rattle.frames.specs.Frame.{framed, frameOf}
-use Rattle.frames.specs.Reply.{floatDigits, replyDigits}
+use Rattle.plain.specs.declared.call.Call.the-variants.{Withdraw}
+use Rattle.unhex.specs.Digits.{allDigits, hexAt}
+use Rattle.hex.specs.Hex.{digits}
+use Rattle.wire.specs.declared.frame.Frame.the-variants.{Fresh, Told, Mean, NotAFrame}
+use Rattle.wire.specs.declared.reply.Reply.the-variants as reply
+use Rattle.wire.specs.Frame.{framed, frameOf}
+use Rattle.wire.specs.Reply.{floatDigits, replyDigits}
 use Rattle.frames.specs.Whole.{onto, linesOf}
 
 -- 020008

@@ -5,12 +5,12 @@ use mathlib.Core.List.{List, [], _∷_, _++_}
 use mathlib.Core.Option.{Option, none}
 use mathlib.Core.Path.{_≡_}
 use lib.Dec.{eqb}
-use Rattle.board.specs.Board.{Plain}
-use Rattle.frames.specs.declared.frame.Frame.{Frame}
-use Rattle.frames.specs.declared.reply.Reply.{Reply}
-use Rattle.frames.specs.Frame.{frameOf}
-use Rattle.frames.specs.Reply.{replyDigits}
-use Rattle.frames.specs.Session.{Replied, next}
+use Rattle.plain.specs.Board.{Plain}
+use Rattle.wire.specs.declared.frame.Frame.{Frame}
+use Rattle.wire.specs.declared.reply.Reply.{Reply}
+use Rattle.wire.specs.Frame.{frameOf}
+use Rattle.wire.specs.Reply.{replyDigits}
+use Rattle.sessions.specs.Session.{Replied, next}
 
 -- the byte that ends a line
 abbrev pub newline : ℕ

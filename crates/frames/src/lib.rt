@@ -1,7 +1,3 @@
-// Frames of the program plot: a line becomes a frame, an answer its reply, and a whole input all replies.
-pub mod frame;
+// Lines of a whole input, however it is cut, and all their replies.
 mod line;
-pub mod quick;
-pub mod reply;
-pub mod session;
 pub mod stream;

@@ -3,12 +3,12 @@ ghost use mathlib.Core.Path.{_≡_};
 ghost use Prim.Native.Nat.{_+_, _≤_};
 ghost use lib.ListN.{length};
 ghost use Rattle.frames.specs.Line as spec;
-use crate::frame::ASKED;
-use crate::frame::FRESH;
-use crate::frame::MOST_FRAME_DIGITS;
-use crate::frame::NAMED;
-use crate::frame::OWN_SHIP;
-use crate::frame::REPORT;
+use wire::frame::ASKED;
+use wire::frame::FRESH;
+use wire::frame::MOST_FRAME_DIGITS;
+use wire::frame::NAMED;
+use wire::frame::OWN_SHIP;
+use wire::frame::REPORT;
 
 // How many bytes of a line are kept: one more than the longest frame has, so that a longer line is no frame.
 pub const KEPT: usize = MOST_FRAME_DIGITS + 1;

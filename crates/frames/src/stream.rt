@@ -5,34 +5,34 @@ ghost use Prim.Native.Nat.{ℕ, _+_, _≤_};
 ghost use lib.ListN.{length};
 ghost use Rattle.frames.specs.Line.{least};
 ghost use Rattle.frames.specs.Whole.{Output};
-ghost use Rattle.frames.specs.Quick.{sessionOf};
+ghost use Rattle.sessions.specs.Quick.{sessionOf};
 ghost use Rattle.frames.specs.Stream as spec;
-use crate::frame::Frame;
-use crate::frame::read;
-use crate::frame::read_known;
 use crate::line::KEPT;
 use crate::line::NEWLINE;
 use crate::line::end_of_line;
 use crate::line::joined;
 use crate::line::kept_of;
 use crate::line::line_at;
-use crate::quick::Quick;
-use crate::quick::look;
-use crate::reply::Reply;
-use crate::reply::put;
-use crate::session::Session;
-use crate::session::step;
 use board::glance::Setting;
 use board::glance::board_of;
 use board::glance::setting_of;
-use board::targets::MOST_TARGETS;
-use board::targets::Target;
-use board::targets::Targets;
-use board::targets::bared;
-use board::targets::identities;
+use plain::targets::MOST_TARGETS;
+use plain::targets::Target;
+use plain::targets::Targets;
+use sessions::quick::Quick;
+use sessions::quick::look;
+use sessions::session::Session;
+use sessions::session::step;
+use targets::bared;
+use targets::identities;
+use wire::frame::Frame;
+use wire::frame::read;
+use wire::frame::read_known;
+use wire::reply::Reply;
+use wire::reply::put;
 
 // The room that any reply fits, its newline with it.
-const ROOM: usize = crate::reply::MOST_REPLY_DIGITS + 1;
+const ROOM: usize = wire::reply::MOST_REPLY_DIGITS + 1;
 
 // The session, and the first n bytes of a line that has begun.
 pub struct Stream {
@@ -60,7 +60,7 @@ pub struct Fed {
 pub fn begin() -> Stream
     ensures { λ r. ⌜ (spec.view r ≡ spec.fresh) × ((pieces : List (List ℕ)) (text : List ℕ) → spec.Ran spec.fresh pieces text → Output (spec.joined pieces) text) ⌝ }
 {
-    let session = crate::session::begin();
+    let session = sessions::session::begin();
     Stream {
         session,
         line: [0u8; KEPT],

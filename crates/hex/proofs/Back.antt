@@ -9,9 +9,10 @@ use lib.Arith.{mod-mul}
 use lib.Dec.{ltb, lit<}
 use lib.ListN.{length, take, drop, getD, length-append}
 use lib.Seq.{append-snoc, getD-at, length-take-le}
-use Rattle.hex.specs.Hex.{digitOf, hexAt, byteOf, digits}
+use Rattle.unhex.specs.Digits.{digitOf, hexAt}
+use Rattle.hex.specs.Hex.{byteOf, digits}
 use Rattle.hex.specs.Write.{over, Wrote}
-use Rattle.hex.proofs.Read.{by-test, number-below}
+use Rattle.unhex.proofs.Read.{by-test, number-below}
 use Rattle.hex.proofs.Write.{length-digits}
 
 pub digit-back : (d : ℕ) → d < 16 → digitOf (byteOf d) ≡ d

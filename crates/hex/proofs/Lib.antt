@@ -1,4 +1,2 @@
 pub mod Back
-pub mod Fold
-pub mod Read
 pub mod Write

@@ -1,13 +1,13 @@
 -- The antipode of the antipode is the position again, up to the sign of zeros, and to be antipodes is symmetric. Assumes nothing.
 use mathlib.Core.Path.{_≡_, ap, _∙_}
 use lib.Ieee.{binary64}
-use Rattle.jord.specs.Vec3.{new}
+use Rattle.vectors.specs.Vec3.{new}
 use Rattle.jord.specs.Positions.{nvectorNew, asVec3, antipode, isAntipodeOf}
-use Rattle.jord.specs.Zero.{NoMinusZero, Held}
+use Rattle.vectors.specs.Zero.{NoMinusZero, Held}
 use Rattle.jord.specs.declared.positions.NVector.{NVector}
-use Rattle.jord.proofs.Sum.{add-comm-float}
-use Rattle.jord.proofs.PlusZero.{twice}
-use Rattle.jord.proofs.Vectors.{new-keeps}
+use Rattle.vectors.proofs.Sum.{add-comm-float}
+use Rattle.vectors.proofs.PlusZero.{twice}
+use Rattle.vectors.proofs.Vectors.{new-keeps}
 
 -- for every position: each part through `Vec3::new`, so that a NaN stays and -0 becomes +0
 pub antipode-twice : (p : NVector) → Held (asVec3 p) → antipode (antipode p) ≡ nvectorNew (new (asVec3 p .x) (asVec3 p .y) (asVec3 p .z))

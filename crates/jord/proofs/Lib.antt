@@ -1,4 +1,1 @@
-pub mod Sum
-pub mod PlusZero
-pub mod Vectors
 pub mod Antipodes

@@ -2,10 +2,10 @@
 use mathlib.Core.Bool.{Bool, cond, _&&_}
 use lib.Ieee as Ieee
 use lib.Ieee.{Float, binary64, ofBits, le, lt, rem}
-use Rattle.float.specs.Operators.{_⊕_, _⊗_, pi}
-use Rattle.float.specs.Bits.{magnitude}
+use Rattle.patterns.specs.Operators.{_⊕_, _⊗_, pi}
+use Rattle.patterns.specs.Bits.{magnitude}
 use Rattle.float.specs.Degrees.{toRadians, toDegrees}
-use Rattle.jord.specs.Literal.{zero}
+use Rattle.vectors.specs.Literal.{zero}
 use Rattle.jord.specs.Numbers.{EPSILON}
 use Rattle.jord.specs.declared.angle.Angle.{Angle}
 

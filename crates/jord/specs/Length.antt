@@ -1,8 +1,8 @@
 -- length.rs: lengths in metres. Definitions only.
 use mathlib.Core.Bool.{cond}
 use lib.Ieee.{Float, binary64, ofBits, le, neg}
-use Rattle.float.specs.Operators.{_⊗_, _⊘_}
-use Rattle.jord.specs.Literal.{zero}
+use Rattle.patterns.specs.Operators.{_⊗_, _⊘_}
+use Rattle.vectors.specs.Literal.{zero}
 use Rattle.jord.specs.declared.angle.Angle.{Angle}
 use Rattle.jord.specs.declared.length.Length.{Length}
 

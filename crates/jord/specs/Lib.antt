@@ -1,11 +1,7 @@
-pub mod Literal
-pub mod Zero
 pub mod Numbers
 pub mod Angle
 pub mod Length
 pub mod Speed
-pub mod Vec3
-pub mod Mat33
 pub mod Positions
 pub mod Vehicle
 pub mod Table

@@ -1,9 +1,9 @@
 -- numbers.rs: comparisons within EPSILON. Definitions only.
 use mathlib.Core.Bool.{Bool, _||_}
 use lib.Ieee.{Float, binary64, ofBits, le}
-use Rattle.float.specs.Operators.{_⊖_}
-use Rattle.float.specs.Bits.{magnitude}
-use Rattle.jord.specs.Literal.{zero}
+use Rattle.patterns.specs.Operators.{_⊖_}
+use Rattle.patterns.specs.Bits.{magnitude}
+use Rattle.vectors.specs.Literal.{zero}
 
 -- "EPSILON is 2^-52"
 abbrev pub EPSILON : Float

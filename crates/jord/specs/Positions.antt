@@ -2,13 +2,13 @@
 use mathlib.Core.Bool.{Bool, cond}
 use lib.Ieee as Ieee
 use lib.Ieee.{Float}
-use Rattle.float.specs.Operators.{_⊕_, _⊗_}
+use Rattle.patterns.specs.Operators.{_⊕_, _⊗_}
 use Rattle.float.specs.Trig.{sin, cos, atan2}
-use Rattle.float.specs.Root.{sqrt}
+use Rattle.roots.specs.Root.{sqrt}
 use Rattle.jord.specs.Angle as angle
-use Rattle.jord.specs.Vec3 as vec3
+use Rattle.vectors.specs.Vec3 as vec3
 use Rattle.jord.specs.declared.angle.Angle.{Angle}
-use Rattle.jord.specs.declared.vec3.Vec3.{Vec3}
+use Rattle.vectors.specs.declared.vec3.Vec3.{Vec3}
 use Rattle.jord.specs.declared.positions.LatLong.{LatLong}
 use Rattle.jord.specs.declared.positions.NVector.{NVector}
 

@@ -1,9 +1,9 @@
 -- speed.rs: speeds in metres a second. Definitions only. A duration is a number of nanoseconds.
 use Prim.Native.Nat.{ℕ}
 use lib.Ieee.{Float, binary64, ofBits}
-use Rattle.float.specs.Operators.{_⊗_, _⊘_}
+use Rattle.patterns.specs.Operators.{_⊗_, _⊘_}
 use Rattle.duration.specs.Duration.{toSeconds}
-use Rattle.jord.specs.Literal.{zero}
+use Rattle.vectors.specs.Literal.{zero}
 use Rattle.jord.specs.Length.{fromMetres}
 use Rattle.jord.specs.declared.length.Length.{Length}
 use Rattle.jord.specs.declared.speed.Speed.{Speed}

@@ -4,12 +4,12 @@ use mathlib.Core.Bool.{true, false}
 use lib.IntN.{pos, negsuc}
 use lib.Ieee as Ieee
 use lib.Ieee.{fin, neg, ofBits, ofInt}
-use Rattle.float.specs.Operators.{_⊗_, _⊘_, pi, whole}
+use Rattle.patterns.specs.Operators.{_⊗_, _⊘_, pi, whole}
 use Rattle.jord.specs.Numbers.{EPSILON, eqZero}
 use Rattle.jord.specs.Angle.{fromRadians, QUARTER-CIRCLE, NEG-QUARTER-CIRCLE, NEG-HALF-CIRCLE, FULL-CIRCLE, normalised, normalisedTo}
 use Rattle.jord.specs.Length.{NM-TO-M, KM-TO-M}
 use Rattle.jord.specs.Speed.{KPH-TO-MPS, KNOTS-TO-MPS}
-use Rattle.jord.specs.Vec3.{UNIT-X, NEG-UNIT-Y, orthogonal}
+use Rattle.vectors.specs.Vec3.{UNIT-X, NEG-UNIT-Y, orthogonal}
 
 -- "`eq_zero`: 2^-52 yes, 2^-51 no"
 pub eq-zero-yes : eqZero (fin false 1 (negsuc 51)) ≡ true

@@ -2,11 +2,11 @@
 ghost use mathlib.Core.Path.{_≡_};
 ghost use Rattle.jord.specs.Angle as spec;
 use crate::numbers::EPSILON;
-use float::bits::magnitude;
 use float::degrees::to_degrees;
 use float::degrees::to_radians;
-use float::remainder::rem;
 use float::trig::PI;
+use patterns::magnitude;
+use remainders::rem;
 
 // An angle.
 pub struct Angle {

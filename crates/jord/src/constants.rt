@@ -2,12 +2,12 @@
 ghost use mathlib.Core.Path.{_≡_};
 ghost use Rattle.jord.specs.Angle.{NEG-HALF-CIRCLE, DBL-EPSILON};
 ghost use Rattle.jord.specs.Length.{ZERO, MAX};
-ghost use Rattle.jord.specs.Mat33.{IDENTITY};
-ghost use Rattle.jord.specs.Vec3.{NEG-UNIT-X};
+ghost use Rattle.vectors.specs.Mat33.{IDENTITY};
+ghost use Rattle.vectors.specs.Vec3.{NEG-UNIT-X};
 use crate::angle::Angle;
 use crate::length::Length;
-use crate::mat33::Mat33;
-use crate::vec3::Vec3;
+use vectors::mat33::Mat33;
+use vectors::vec3::Vec3;
 
 // -180 degrees.
 fn neg_half_circle() -> Angle

@@ -1,7 +1,7 @@
 // Comparisons within EPSILON.
 ghost use mathlib.Core.Path.{_≡_};
 ghost use Rattle.jord.specs.Numbers as spec;
-use float::bits::magnitude;
+use patterns::magnitude;
 
 // The step from 1.0 to the next float, 2^-52.
 pub const EPSILON: f64 = 2.220446049250313e-16;

@@ -2,11 +2,11 @@
 ghost use mathlib.Core.Path.{_≡_};
 ghost use Rattle.jord.specs.Positions as spec;
 use crate::angle::Angle;
-use crate::vec3::Vec3;
-use float::root::sqrt;
 use float::trig::atan2;
 use float::trig::cos;
 use float::trig::sin;
+use roots::sqrt;
+use vectors::vec3::Vec3;
 
 // A position by its latitude and longitude.
 pub struct LatLong {

@@ -1,45 +1,22 @@
 // A line as a call: two digits of the function's number, then a space and 16 digits for each argument.
-use crate::durations;
-use crate::fields;
-use crate::floats;
-use crate::great_circles;
-use crate::lent;
-use crate::matrices;
-use crate::means;
-use crate::numbers;
-use crate::positions;
-use crate::sphere;
-use crate::units;
-use crate::vectors;
-use crate::ways;
+use probe_fields::fields;
+use probe_fields::fields::ARGUMENTS;
+use probe_ways::LENT;
+use probe_ways::MEAN;
+use probe_ways::ways;
 
-// A call has this many arguments at most, and then this many bytes.
-pub const ARGUMENTS: usize = 18;
-
+// The bytes of a call with as many arguments as there is room for.
 pub const MOST_LINE_BYTES: usize = 2 + 17 * ARGUMENTS;
-
-// More arguments than a line has room for: how many a number takes that is no function's.
-const UNKNOWN: usize = 99;
-
-// The means take as many coordinates as there are.
-const MEAN: u64 = 0x79;
-
-const LENT: u64 = 0x8d;
 
 // How many arguments the function of a number takes.
 fn arity(f: u64) -> usize {
     match f {
-        0x01..=0x0b => floats::arity(f),
-        0x0c..=0x0e => durations::arity(f),
-        0x10..=0x13 => numbers::arity(f),
-        0x14..=0x28 => units::arity(f),
-        0x30..=0x40 => vectors::arity(f),
-        0x41..=0x43 => matrices::arity(f),
-        0x50..=0x56 | 0x66 => positions::arity(f),
-        0x60..=0x65 => great_circles::arity(f),
-        0x70..=0x78 | 0x7a => sphere::arity(f),
+        0x01..=0x13 => probe_fields::arity(f),
+        0x14..=0x56 | 0x66 => probe_jord::arity(f),
+        0x60..=0x65 => probe_sphere::arity(f),
+        0x70..=0x78 | 0x7a => probe_sphere::arity(f),
         0x80..=0x8c => ways::arity(f),
-        _ => UNKNOWN,
+        _ => probe_fields::UNKNOWN,
     }
 }
 
@@ -54,19 +31,11 @@ fn takes(f: u64, n: usize) -> bool {
 // The result fields, over the page from at on, and the place past them.
 fn dispatch(f: u64, args: &[u64], n: usize, page: &mut [u8], at: usize) -> usize {
     match f {
-        0x01..=0x0b => floats::answer(f, args, page, at),
-        0x0c..=0x0e => durations::answer(f, args, page, at),
-        0x10..=0x13 => numbers::answer(f, args, page, at),
-        0x14..=0x28 => units::answer(f, args, page, at),
-        0x30..=0x40 => vectors::answer(f, args, page, at),
-        0x41..=0x43 => matrices::answer(f, args, page, at),
-        0x50..=0x56 | 0x66 => positions::answer(f, args, page, at),
-        0x60..=0x65 => great_circles::answer(f, args, page, at),
-        0x70..=0x78 | 0x7a => sphere::answer(f, args, page, at),
-        0x80..=0x8c => ways::answer(f, args, page, at),
-        MEAN => means::answer(args, n, page, at),
-        LENT => lent::answer(args, n, page, at),
-        _ => fields::put_refusal(page, at),
+        0x01..=0x13 => probe_fields::answer(f, args, page, at),
+        0x14..=0x56 | 0x66 => probe_jord::answer(f, args, page, at),
+        0x60..=0x65 => probe_sphere::answer(f, args, page, at),
+        0x70..=0x78 | 0x7a => probe_sphere::answer(f, args, page, at),
+        _ => probe_ways::answer(f, args, n, page, at),
     }
 }
 

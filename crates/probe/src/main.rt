@@ -1,20 +1,7 @@
 // Reads calls on standard input, one a line, and writes the answer to each on standard output, until the input ends or a write fails.
 mod call;
-mod durations;
-mod fields;
-mod floats;
-mod great_circles;
-mod lent;
 mod lines;
-mod matrices;
-mod means;
-mod numbers;
 mod page;
-mod positions;
-mod sphere;
-mod units;
-mod vectors;
-mod ways;
 
 use lines::Line;
 use lines::Turned;

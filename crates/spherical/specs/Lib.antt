@@ -1,15 +1,4 @@
-pub mod Side
-pub mod Base
-pub mod GreatCircle
-pub mod MinorArc
-pub mod Course
-pub mod Walk
-pub mod Outcome
-pub mod Mean
 pub mod Interpolated
 pub mod Sphere
-pub mod Counts
-pub mod Before
-pub mod AtRest
 pub mod Table
 pub mod Together

@@ -3,31 +3,28 @@ use Prim.Native.Nat.{ℕ}
 use mathlib.Core.Bool.{Bool, cond, not, _&&_}
 use lib.Ieee as Ieee
 use lib.Ieee.{Float, binary64, ofBits, le, lt, rem}
-use Rattle.float.specs.Operators.{_⊕_, _⊖_, _⊘_, whole, pi}
-use Rattle.float.specs.Bits.{magnitude}
+use Rattle.patterns.specs.Operators.{_⊕_, _⊖_, _⊘_, whole, pi}
+use Rattle.patterns.specs.Bits.{magnitude}
 use Rattle.float.specs.Trig.{sin, cos}
-use Rattle.jord.specs.Literal.{zero, one}
+use Rattle.vectors.specs.Literal.{zero, one}
 use Rattle.jord.specs.Angle as angles
 use Rattle.jord.specs.Length as lengths
-use Rattle.jord.specs.Vec3 as vec3
+use Rattle.vectors.specs.Vec3 as vec3
 use Rattle.jord.specs.Positions as positions
 use Rattle.jord.specs.Positions.{nvectorNew, asVec3}
 use Rattle.jord.specs.Speed.{mulDuration}
-use Rattle.jord.specs.declared.vec3.Vec3.{Vec3}
+use Rattle.vectors.specs.declared.vec3.Vec3.{Vec3}
 use Rattle.jord.specs.declared.angle.Angle.{Angle}
 use Rattle.jord.specs.declared.length.Length.{Length}
 use Rattle.jord.specs.declared.positions.NVector.{NVector}
 use Rattle.jord.specs.declared.speed.Speed.{Speed}
 use Rattle.jord.specs.declared.vehicle.Vehicle.{Vehicle}
-use Rattle.spherical.specs.Base as base
-use Rattle.spherical.specs.Walk.{cpaNew, cpaStep, newtonRaphson, chaseNew, chaseStart, intMinStep, intMinNrRec, intSpdStep, intSpdNrRec, interceptStart}
-use Rattle.spherical.specs.Outcome.{ofSeconds, ofHours}
-use Rattle.spherical.specs.declared.walk.Step.{Step}
-use Rattle.spherical.specs.declared.walk.Walk.{Walk}
-use Rattle.spherical.specs.declared.outcome.Outcome.{Outcome}
-use Rattle.spherical.specs.declared.Side.{Side}
-use Rattle.spherical.specs.declared.great_circle.GreatCircle.{GreatCircle}
-use Rattle.spherical.specs.declared.minor_arc.MinorArc.{MinorArc}
+use Rattle.arcs.specs.Base as base
+use Rattle.walks.specs.Times as times
+use Rattle.walks.specs.declared.Outcome.{Outcome}
+use Rattle.arcs.specs.declared.Side.{Side}
+use Rattle.arcs.specs.declared.great_circle.GreatCircle.{GreatCircle}
+use Rattle.arcs.specs.declared.minor_arc.MinorArc.{MinorArc}
 use Rattle.spherical.specs.declared.interpolated.Interpolated.{Interpolated}
 use Rattle.spherical.specs.declared.interpolated.Interpolated.the-variants.{Position, Outside}
 use Rattle.spherical.specs.declared.sphere.Sphere.{Sphere}
@@ -164,43 +161,13 @@ unfoldable pub interpolatedPosition : NVector → NVector → Float → Interpol
 unfolding le Ieee.eq
 interpolatedPosition p1 p2 f = cond (isFraction f) (Position (nthPosition p1 p2 f)) Outside
 
--- ---- the closest approach, over hours
+-- ---- times, on the sphere's radius
 
-abbrev pub cpaSteps : Sphere → Vehicle → Vehicle → Float → Step
-cpaSteps s own int = cpaStep (cpaNew (s .radius) own int)
+abbrev pub timeToCpa : Sphere → Vehicle → Vehicle → Outcome
+timeToCpa s own int = times.timeToCpa (s .radius) own int
 
-abbrev pub cpaWalk : Sphere → Vehicle → Vehicle → Walk
-cpaWalk s own int = newtonRaphson (cpaNew (s .radius) own int)
+abbrev pub timeToIntercept : Sphere → NVector → Speed → Vehicle → Outcome
+timeToIntercept s interceptor speed intruder = times.timeToIntercept (s .radius) interceptor speed intruder
 
-unfoldable pub timeToCpa : Sphere → Vehicle → Vehicle → Outcome
-timeToCpa s own int = ofHours (cpaWalk s own int)
-
--- ---- the intercept at a given speed, over seconds
-
--- w1 = intercept_speed_mps / r_m
-abbrev pub perSecond : Sphere → Speed → Float
-perSecond s speed = speed .mps ⊘ s .radius .metres
-
-abbrev pub interceptSteps : Sphere → NVector → Speed → Vehicle → Float → Step
-interceptSteps s interceptor speed intruder = intSpdStep (chaseNew (s .radius) interceptor intruder) (perSecond s speed)
-
-abbrev pub interceptWalk : Sphere → NVector → Speed → Vehicle → Walk
-interceptWalk s interceptor speed intruder =
-    intSpdNrRec (chaseNew (s .radius) interceptor intruder) (perSecond s speed) interceptStart 0
-
-unfoldable pub timeToIntercept : Sphere → NVector → Speed → Vehicle → Outcome
-timeToIntercept s interceptor speed intruder = ofSeconds (interceptWalk s interceptor speed intruder)
-
--- ---- the longest intercept, over seconds
-
-abbrev pub longestSteps : Sphere → NVector → Vehicle → Float → Step
-longestSteps s interceptor intruder = intMinStep (chaseNew (s .radius) interceptor intruder)
-
-abbrev pub longestStart : Sphere → NVector → Vehicle → Float
-longestStart s interceptor intruder = chaseStart (chaseNew (s .radius) interceptor intruder)
-
-abbrev pub longestWalk : Sphere → NVector → Vehicle → Walk
-longestWalk s interceptor intruder = intMinNrRec (chaseNew (s .radius) interceptor intruder) (longestStart s interceptor intruder) 0
-
-unfoldable pub maxTimeToIntercept : Sphere → NVector → Vehicle → Outcome
-maxTimeToIntercept s interceptor intruder = ofSeconds (longestWalk s interceptor intruder)
+abbrev pub maxTimeToIntercept : Sphere → NVector → Vehicle → Outcome
+maxTimeToIntercept s interceptor intruder = times.maxTimeToIntercept (s .radius) interceptor intruder

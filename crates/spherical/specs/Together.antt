@@ -4,30 +4,34 @@ use mathlib.Core.Bool.{true, false}
 use mathlib.Core.List.{[], _∷_}
 use lib.IntN.{pos, negsuc}
 use lib.Ieee.{nan, fin}
-use Rattle.float.specs.Operators.{pi}
-use Rattle.float.specs.Root.{sqrt}
+use Rattle.patterns.specs.Operators.{pi}
+use Rattle.roots.specs.Root.{sqrt}
 use Rattle.float.specs.Trig.{cos, atan2}
 use Rattle.float.specs.Table as floats
-use Rattle.jord.specs.Literal.{zero, one, minusOne}
+use Rattle.roots.specs.Table as roots
+use Rattle.vectors.specs.Literal.{zero, one, minusOne}
 use Rattle.jord.specs.Numbers.{eqZero}
 use Rattle.jord.specs.Angle as angle
 use Rattle.jord.specs.Length.{fromMetres}
 use Rattle.jord.specs.Speed as speed
-use Rattle.jord.specs.Vec3.{UNIT-X, UNIT-Y, UNIT-Z, NEG-UNIT-Y, orthogonal}
+use Rattle.vectors.specs.Vec3.{UNIT-X, UNIT-Y, UNIT-Z, NEG-UNIT-Y, orthogonal}
 use Rattle.jord.specs.Positions.{nvectorNew}
 use Rattle.jord.specs.Vehicle as vehicle
 use Rattle.jord.specs.Table as jords
 use Rattle.jord.specs.declared.positions.NVector.{NVector}
-use Rattle.spherical.specs.Base.{side}
+use Rattle.arcs.specs.Base.{side}
 use Rattle.spherical.specs.Interpolated as interpolated
-use Rattle.spherical.specs.Mean.{meanPosition, numberOf}
+use Rattle.means.specs.Mean.{meanPosition, numberOf}
 use Rattle.spherical.specs.Sphere as sphere
 use Rattle.spherical.specs.Sphere.{interpolatedPosition, timeToCpa}
 use Rattle.spherical.specs.Table as rows
-use Rattle.spherical.specs.declared.Side.the-variants.{Left, Right}
+use Rattle.arcs.specs.Table as arcs
+use Rattle.means.specs.Table as means
+use Rattle.walks.specs.Table as walks
+use Rattle.arcs.specs.declared.Side.the-variants.{Left, Right}
 use Rattle.spherical.specs.declared.interpolated.Interpolated.the-variants as interpolation
-use Rattle.spherical.specs.declared.mean.Mean.the-variants.{Position}
-use Rattle.spherical.specs.declared.outcome.Outcome.the-variants.{ZeroDerivative}
+use Rattle.means.specs.declared.Mean.the-variants.{Position}
+use Rattle.walks.specs.declared.Outcome.the-variants.{ZeroDerivative}
 
 pub record Together : Type 0 where
   -- "Root of 2^-1074 is 2^-537"
@@ -58,20 +62,20 @@ pub record Together : Type 0 where
 pub table : Together
 table =
     record {
-      root = floats.root-of-smallest;
+      root = roots.root-of-smallest;
       eq-zero-yes = jords.eq-zero-yes;
       eq-zero-no = jords.eq-zero-no;
       orthogonal-of-x = jords.orthogonal-of-x;
-      side-left = rows.side-left;
-      side-right = rows.side-right;
-      side-equal-ends = rows.side-equal-ends;
+      side-left = arcs.side-left;
+      side-right = arcs.side-right;
+      side-equal-ends = arcs.side-equal-ends;
       cosine = floats.cosine-of-pi;
       arc = floats.atan2-of-zero-minus-one;
-      mean-of-none = rows.mean-of-none;
-      mean-of-opposites = rows.mean-of-opposites;
-      mean-of-zero = rows.mean-of-zero;
-      mean-of-one = rows.mean-of-one;
+      mean-of-none = means.mean-of-none;
+      mean-of-opposites = means.mean-of-opposites;
+      mean-of-zero = means.mean-of-zero;
+      mean-of-one = means.mean-of-one;
       fraction-nan = rows.fraction-nan;
       fraction-minus-zero = rows.fraction-minus-zero;
-      at-rest = rows.cpa-at-rest;
+      at-rest = walks.cpa-at-rest;
     }

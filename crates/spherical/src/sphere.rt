@@ -1,20 +1,20 @@
 // Navigation on a sphere.
 ghost use mathlib.Core.Path.{_≡_};
 ghost use Rattle.spherical.specs.Sphere as spec;
-use crate::Side;
-use crate::base;
-use crate::great_circle::GreatCircle;
 use crate::interpolated::Interpolated;
-use crate::minor_arc::MinorArc;
-use crate::outcome::Outcome;
-use crate::walk::Chase;
-use crate::walk::Cpa;
-use crate::walk::INTERCEPT_START;
-use crate::walk::int_min_nr_rec;
-use crate::walk::int_spd_nr_rec;
-use crate::walk::newton_raphson;
-use float::bits::magnitude;
-use float::remainder::rem;
+use arcs::Side;
+use arcs::base;
+use arcs::great_circle::GreatCircle;
+use arcs::minor_arc::MinorArc;
+use chases::INTERCEPT_START;
+use chases::chase_new;
+use chases::chase_start;
+use chases::cpa_new;
+use chases::int_min_nr_rec;
+use chases::int_spd_nr_rec;
+use chases::newton_raphson;
+use chases::outcome::of_hours;
+use chases::outcome::of_seconds;
 use float::trig::PI;
 use float::trig::cos;
 use float::trig::sin;
@@ -22,8 +22,11 @@ use jord::angle::Angle;
 use jord::length::Length;
 use jord::positions::NVector;
 use jord::speed::Speed;
-use jord::vec3::Vec3;
 use jord::vehicle::Vehicle;
+use patterns::magnitude;
+use remainders::rem;
+use vectors::vec3::Vec3;
+use walks::Outcome;
 
 // A sphere.
 pub struct Sphere {
@@ -230,15 +233,15 @@ impl Sphere {
     pub fn time_to_cpa(self, ownship: Vehicle, intruder: Vehicle) -> Outcome
         ensures { λ r. ⌜ r ≡ spec.timeToCpa self ownship intruder ⌝ }
     {
-        Outcome::of_hours(newton_raphson(Cpa::new(self.radius, ownship, intruder)))
+        of_hours(newton_raphson(cpa_new(self.radius, ownship, intruder)))
     }
 
     // The time until an interceptor meets the intruder at the least speed that can, the longest such time; refused with 13 to 15.
     pub fn max_time_to_intercept(self, interceptor: NVector, intruder: Vehicle) -> Outcome
         ensures { λ r. ⌜ r ≡ spec.maxTimeToIntercept self interceptor intruder ⌝ }
     {
-        let k = Chase::new(self.radius, interceptor, intruder);
-        Outcome::of_seconds(int_min_nr_rec(k, k.start(), 0))
+        let k = chase_new(self.radius, interceptor, intruder);
+        of_seconds(int_min_nr_rec(k, chase_start(k), 0))
     }
 
     // The time until an interceptor meets the intruder at a given speed; refused with 13 to 15.
@@ -246,8 +249,8 @@ impl Sphere {
         ensures { λ r. ⌜ r ≡ spec.timeToIntercept self interceptor speed intruder ⌝ }
     {
         let w1 = speed.mps / self.radius.metres;
-        let k = Chase::new(self.radius, interceptor, intruder);
-        Outcome::of_seconds(int_spd_nr_rec(k, w1, INTERCEPT_START, 0))
+        let k = chase_new(self.radius, interceptor, intruder);
+        of_seconds(int_spd_nr_rec(k, w1, INTERCEPT_START, 0))
     }
 }
 

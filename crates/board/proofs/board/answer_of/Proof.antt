@@ -1,6 +1,6 @@
 -- `answer_of` meets its contract. The questions of each call, in their order.
 use mathlib.Core.Path.{refl}
-use Rattle.board.specs.Board.{answer}
+use Rattle.plain.specs.Board.{answer}
 use Rattle.board.specs.Change.{RightAnswer}
 use borrow.Author.Needs.{needs}
 use Rattle.board.proofs.board.answer_of.Statement.{statement}

@@ -1,13 +1,13 @@
 -- `fresh` meets its contract. The board stands for the fresh plain board, and demand 3 holds of every list of calls from it.
 use mathlib.Core.Path.{_≡_, _∙_}
 use borrow.Author.Needs.{needs}
-use Rattle.board.specs.declared.state.Tracked.the-variants.{Nowhere}
-use Rattle.board.specs.declared.state.Own.the-variants.{Nobody}
-use Rattle.board.specs.declared.state.Board.{Board}
-use Rattle.board.specs.Code.{plain}
-use Rattle.board.specs.Board.{fresh, begins}
-use Rattle.board.specs.Targets.{listed}
-use Rattle.board.proofs.Played.{whole}
+use Rattle.plain.specs.declared.state.Tracked.the-variants.{Nowhere}
+use Rattle.plain.specs.declared.state.Own.the-variants.{Nobody}
+use Rattle.plain.specs.declared.state.Board.{Board}
+use Rattle.plain.specs.Code.{plain}
+use Rattle.plain.specs.Board.{fresh, begins}
+use Rattle.plain.specs.Targets.{listed}
+use Rattle.plain.proofs.Played.{whole}
 use Rattle.board.proofs.board.fresh.Statement.{statement}
 use Rattle.board.proofs.board.fresh.Tie as tie
 

@@ -7,12 +7,12 @@ use mathlib.Core.Logic.{inl, inr}
 use mathlib.Core.Path.{_≡_, refl, sym, subst, _∙_}
 use borrow.Author.Tests.{not-true, not-false}
 use borrow.Author.Needs.{needs}
-use Rattle.board.specs.declared.targets.Change.{Change}
-use Rattle.board.specs.Targets.{mostTargets, atMost, listed}
-use Rattle.board.specs.Code.{plain}
+use Rattle.targets.specs.declared.Change.{Change}
+use Rattle.plain.specs.Targets.{mostTargets, atMost, listed}
+use Rattle.plain.specs.Code.{plain}
 use Rattle.board.specs.Change.{entriesAfter, Within}
-use Rattle.board.proofs.Slots.{at-most-le}
-use Rattle.board.proofs.Played.{heard-refused}
+use Rattle.plain.proofs.Listed.{at-most-le}
+use Rattle.plain.proofs.Played.{heard-refused}
 use Rattle.board.proofs.Changes.{sought-is, answered-is, within-is, changed-is}
 use Rattle.board.proofs.board.hear.Statement.{statement}
 use Rattle.board.proofs.board.hear.Tie as tie

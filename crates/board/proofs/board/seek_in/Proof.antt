@@ -4,8 +4,9 @@ use native.Mathlib.Omega.{arith}
 use mathlib.Core.Path.{_≡_, sym}
 use lib.ListN.{length, take, drop}
 use borrow.Author.Needs.{needs}
-use Rattle.board.specs.Targets.{mostTargets, spotFrom}
-use Rattle.board.proofs.Slots.{found-at, found-none}
+use Rattle.plain.specs.Targets.{mostTargets}
+use Rattle.targets.specs.Slots.{spotFrom}
+use Rattle.targets.proofs.Slots.{found-at, found-none}
 use Rattle.board.proofs.Changes.{entry-below, entry-same, entry-above, entry-none}
 use Rattle.board.proofs.board.seek_in.Statement.{statement}
 use Rattle.board.proofs.board.seek_in.Tie as tie

@@ -2,12 +2,12 @@
 use borrow.Author.Needs.{needs}
 use borrow.Author.Tests.{not-true, not-false}
 use mathlib.Core.Path.{_≡_, sym, ap, _∙_}
-use Rattle.board.specs.declared.call.Answer.the-variants.{Done}
+use Rattle.plain.specs.declared.call.Answer.the-variants.{Done}
 use Rattle.board.specs.declared.glance.Hint.the-variants.{Stays}
-use Rattle.board.specs.declared.targets.Spot.{Spot}
-use Rattle.board.specs.Questions.{ask, askFix, identityAsked}
+use Rattle.targets.specs.declared.Spot.{Spot}
+use Rattle.plain.specs.Questions.{ask, askFix, identityAsked}
 use Rattle.board.specs.Glance.{putAt, atReport}
-use Rattle.board.specs.History.{accepts}
+use Rattle.plain.specs.History.{accepts}
 use Rattle.board.proofs.Glances.{refused-stays, report-goes}
 use Rattle.board.proofs.glance.at_report.Statement.{statement}
 use Rattle.board.proofs.glance.at_report.Tie as tie

@@ -1,7 +1,7 @@
 -- `atan2` meets its contract.
 use mathlib.Core.Path.{sym, ap, _∙_}
 use Rattle.float.specs.Trig as spec
-use Rattle.float.proofs.Pattern.{is-nan, not-nan}
+use Rattle.patterns.proofs.Pattern.{is-nan, not-nan}
 use Rattle.float.proofs.Tangent.{nan-left, nan-right, assemble}
 use lib.Ieee.{Float}
 use borrow.Author.Needs.{needs}

@@ -3,7 +3,7 @@ use Prim.Native.Nat.{_-_, _≤_}
 use mathlib.Core.Path.{_≡_}
 use native.Mathlib.Omega.{arith}
 use borrow.Author.Needs.{needs}
-use Rattle.hex.proofs.Read.{part-length}
+use Rattle.unhex.proofs.Read.{part-length}
 use Rattle.frames.specs.Line.{Holds}
 use Rattle.frames.proofs.Spans.{holds-on, part-at}
 use Rattle.frames.proofs.line.holds.Statement.{statement}

@@ -5,7 +5,7 @@ use mathlib.Core.Path.{_≡_, refl, sym, ap, _∙_}
 use native.Mathlib.Omega.{arith}
 use lib.ListN.{length}
 use lib.Seq.{length-take-le, take-nil}
-use Rattle.frames.specs.Frame.{frameOf}
+use Rattle.wire.specs.Frame.{frameOf}
 use Rattle.frames.specs.Line.{kept}
 use Rattle.frames.proofs.Feeds.{begun-passed, begun-kept, going-on, waits-room, waits-not}
 use Rattle.frames.proofs.Pieces.{frame-cut}

@@ -10,18 +10,18 @@ use lib.ListN.{length, take, drop, getD, length-drop}
 use lib.Seq.{length-take-le}
 use Rattle.board.specs.Glance.{settingOf, Under}
 use Rattle.board.specs.declared.glance.Setting.{Setting}
-use Rattle.board.specs.declared.targets.Target.{Target}
+use Rattle.plain.specs.declared.targets.Target.{Target}
 use Rattle.frames.specs.Line.{least}
-use Rattle.frames.specs.Session.{plainOf}
-use Rattle.frames.specs.Quick.{sessionOf, Quickly}
+use Rattle.sessions.specs.Session.{plainOf}
+use Rattle.sessions.specs.Quick.{sessionOf, Quickly}
 use Rattle.frames.specs.Stream.{Model, room}
 use Rattle.frames.specs.Whole.{newline}
 use Rattle.frames.proofs.Feeds.{opening-none, feeding, passed-fresh, ends-same, waits-room, waits-not}
-use Rattle.frames.proofs.Quicks.{session-parts, under-own, ids-long, quickly}
+use Rattle.sessions.proofs.Quicks.{session-parts, under-own, ids-long, quickly}
 use Rattle.frames.proofs.Turns.{Passed, passed-bytes, passed-step, passed-whole, answering-by, passed-from}
 use Rattle.frames.proofs.stream.lines.Statement.{statement}
 use Rattle.frames.proofs.stream.lines.Tie as tie
-use Rattle.board.specs.Targets.{mostTargets}
+use Rattle.plain.specs.Targets.{mostTargets}
 
 abbrev Inv-loop : tie.InvT-loop
 Inv-loop s xs page₀ started₀ setting₀ entries₀ ids₀ at₀ i₀ page started setting entries ids at i =

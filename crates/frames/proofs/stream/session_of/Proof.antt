@@ -1,6 +1,6 @@
 -- `session_of` meets its contract.
 use borrow.Author.Needs.{needs}
-use Rattle.frames.specs.Quick.{sessionOf}
+use Rattle.sessions.specs.Quick.{sessionOf}
 use Rattle.frames.proofs.stream.session_of.Statement.{statement}
 use Rattle.frames.proofs.stream.session_of.Tie as tie
 

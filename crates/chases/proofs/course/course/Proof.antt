@@ -1,0 +1,11 @@
+-- `course` meets its contract.
+use Rattle.walks.specs.Course.{course}
+use Rattle.chases.proofs.course.course.Statement.{statement}
+use Rattle.chases.proofs.course.course.Tie as tie
+
+returns : tie.Need-returns
+unfolding course
+returns c = rw (c .vec3-mul .ensures, c .before .mul2 .ensures, c .before .before .course-rx .ensures, c .before .before .before .mul .ensures, c .before .before .before .before .course-ry .ensures, c .before .before .before .before .before .course-rz .ensures, c .before .before .before .before .before .before .from-nvector .ensures)
+
+pub course-spec : {M : Type 1} → statement M
+course-spec = tie.close (tie.spec (λ c κs. tt) (λ c κs. tt) (λ c κs. tt) (λ c κs. tt) (λ c κs. tt) (λ c κs. tt) (λ c κs. tt) returns)

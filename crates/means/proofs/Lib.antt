@@ -1,0 +1,5 @@
+pub mod Positions
+pub mod Means
+pub mod Coordinates
+pub mod Entries
+pub mod Slices

@@ -1,0 +1,11 @@
+pub mod Places
+pub mod Pigeons
+pub mod Steps
+pub mod Room
+pub mod History
+pub mod Counts
+pub mod Words
+pub mod Exchange
+pub mod Demand3
+pub mod Played
+pub mod Listed

@@ -1,0 +1,10 @@
+pub mod Line
+pub mod Targets
+pub mod Call
+pub mod Questions
+pub mod Board
+pub mod Asking
+pub mod History
+pub mod Exchange
+pub mod Demand3
+pub mod Code

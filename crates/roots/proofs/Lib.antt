@@ -1,0 +1,9 @@
+pub mod Ordering
+pub mod Square
+pub mod Digits
+pub mod WholeRoot
+pub mod RoundRoot
+pub mod Lifted
+pub mod Rooted
+pub mod Closest
+pub mod Nearest

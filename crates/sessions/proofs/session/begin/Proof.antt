@@ -1,0 +1,16 @@
+-- A session with no board.
+use mathlib.Core.Path.{refl}
+use Rattle.sessions.specs.Session.{plainOf}
+use borrow.Author.Needs.{needs}
+use Rattle.sessions.proofs.session.begin.Statement.{statement}
+use Rattle.sessions.proofs.session.begin.Tie as tie
+
+fresh-requires : tie.Need-fresh-requires
+fresh-requires c κs = search needs
+
+returns : tie.Need-returns
+unfolding plainOf
+returns c = refl
+
+pub begin-spec : {M : Type 1} → statement M
+begin-spec = tie.close (tie.spec fresh-requires returns)

@@ -1,0 +1,3 @@
+// What a frame makes of a session, and its reply.
+pub mod quick;
+pub mod session;

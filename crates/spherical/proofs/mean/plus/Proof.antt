@@ -1,9 +1,0 @@
--- `plus` meets its contract.
-use Rattle.spherical.proofs.mean.plus.Statement.{statement}
-use Rattle.spherical.proofs.mean.plus.Tie as tie
-
-returns : tie.Need-returns
-returns c = rw (c .before .before .before .before .before .before .as-vec3 .ensures)
-
-pub plus-spec : {M : Type 1} → statement M
-plus-spec = tie.close (tie.spec (λ c κs. tt) returns)

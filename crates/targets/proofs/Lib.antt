@@ -1,0 +1,7 @@
+pub mod Arrays
+pub mod Spots
+pub mod Slots
+pub mod Loops
+pub mod Picks
+pub mod Columns
+pub mod Means

@@ -1,0 +1,4 @@
+pub mod Literal
+pub mod Zero
+pub mod Vec3
+pub mod Mat33

@@ -1,0 +1,3 @@
+// Frames and replies of the program plot: a line becomes a frame, an answer its reply.
+pub mod frame;
+pub mod reply;
