@@ -144,7 +144,14 @@ module _ (b : Board) (c : Call) (a : Answer) (r : Change) (s : Spot) (x : Found)
 
   pub changed-is : (es : List Target) (n : ℕ) → a ≡ answer (plain b) c → accepts a ≡ true
       → es ≡ entriesAfter r (b .targets .entries) → n ≡ countAfter r (atMost (b .targets .count))
-      → plain (record { radius = b .radius; own = ownAfter c (b .own); track = trackAfter c (b .track); targets = record { entries = es; count = n }; total = raised a (b .total) })
+      → plain (record {
+        radius = b .radius;
+        own = ownAfter c (b .own);
+        track = trackAfter c
+            (b .track);
+        targets = record { entries = es; count = n };
+        total = raised a (b .total);
+      })
       ≡ after (plain b) c
   unfolding RightChange plain cut accepted
   changed-is es n answers good ee en = heard-accepted b c a _ answers good (rw (ee, en, k (b .targets) full q e .1))

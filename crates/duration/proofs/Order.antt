@@ -62,7 +62,10 @@ within (inf false) (fin false k d) n N v a b = absurd b
 within (fin true m e) (fin false k d) n N v a b = record { is-finite = tt; below = subst (λ (z : ℕ). z < n * down e) (sym (minus-zero m e a)) (mul-pos N (down-pos e)) }
 within (fin false m e) (fin false k d) n N v a b = record {
   is-finite = tt;
-  below = lt-of-mul-lt-mul-right (down d) (lt-of-lt-of-le (ltb→lt (m * up e * down d) (k * up d * down e) b) (le-of-eq (ap (λ (z : ℕ). z * down e) (sym (mul-one (k * up d)) ∙ v .1) ∙ mul-right-comm n (down d) (down e))));
+  below =
+      lt-of-mul-lt-mul-right (down d)
+      (lt-of-lt-of-le (ltb→lt (m * up e * down d) (k * up d * down e) b)
+      (le-of-eq (ap (λ (z : ℕ). z * down e) (sym (mul-one (k * up d)) ∙ v .1) ∙ mul-right-comm n (down d) (down e))));
 }
 
 -- ---- a product of what is zero or more with what is above zero is zero or more
@@ -73,7 +76,8 @@ times m k e d = round-mono binary64 0 1 (m * up e * (k * up d)) (down e * down d
 minus-zero-times : (m k : ℕ) (e d : ℤ) → m * up e ≡ 0 → T (zeroOrMore (mul binary64 (fin true m e) (fin false k d)))
 unfolding mul ofInt le round
 minus-zero-times m k e d z =
-    subst (λ (y : Float). T (zeroOrMore y)) (sym (round-same binary64 true (m * up e * (k * up d)) (down e * down d) 0 1 (mul-pos (down-pos e) (down-pos d)) (zero-lt-suc 0) none)) tt
+    subst (λ (y : Float). T (zeroOrMore y))
+    (sym (round-same binary64 true (m * up e * (k * up d)) (down e * down d) 0 1 (mul-pos (down-pos e) (down-pos d)) (zero-lt-suc 0) none)) tt
   where
     none : m * up e * (k * up d) * 1 ≡ 0 * (down e * down d)
     none = mul-one (m * up e * (k * up d)) ∙ ap (λ (n : ℕ). n * (k * up d)) z ∙ zero-mul (k * up d) ∙ sym (zero-mul (down e * down d))

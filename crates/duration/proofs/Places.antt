@@ -92,7 +92,9 @@ from-units d p h = half-same (d * 2 ^ p) (2 ^ 1074) (d * 2 ^ (p - 1074)) 1 (pow-
     split = ap (λ (n : ℕ). d * 2 ^ n) (above p h) ∙ ap (λ (n : ℕ). d * n) (pow-add 2 (p - 1074) 1074) ∙ sym (mul-assoc d (2 ^ (p - 1074)) (2 ^ 1074))
 
 pub below-units : (d p : ℕ) → p < 1074 → halfAway (d * 2 ^ p) (2 ^ 1074) ≡ (d / 2 ^ (1073 - p) + 1) / 2
-below-units d p h = half-same (d * 2 ^ p) (2 ^ 1074) d (2 * 2 ^ (1073 - p)) (pow-pos 1074) (mul-pos (zero-lt-suc 1) (pow-pos (1073 - p))) cross ∙ half-even d (2 ^ (1073 - p)) (pow-pos (1073 - p))
+below-units d p h =
+    half-same (d * 2 ^ p) (2 ^ 1074) d (2 * 2 ^ (1073 - p)) (pow-pos 1074) (mul-pos (zero-lt-suc 1) (pow-pos (1073 - p))) cross
+    ∙ half-even d (2 ^ (1073 - p)) (pow-pos (1073 - p))
   where
     exps : (p : ℕ) → p < 1074 → p + (1 + (1073 - p)) ≡ 1074
     exps p h = omega arith

@@ -52,7 +52,8 @@ place-lt : (x : Float) (q k j : ℕ) → HasParts x q k → num x < 2 ^ j * den 
 place-lt x q k j p h =
     lt-of-not-le (λ (g : 1022 + j ≤ k).
     let a : 2 ^ 52 * 2 ^ (1022 + j) ≤ q * 2 ^ k = mul-le-mul (p .placed .lead (omega arith)) (pow-mono g) in
-    let b : 2 ^ j * 2 ^ 1074 * den x ≤ num x * 2 ^ 1074 = le-trans (le-of-eq (ap (λ (n : ℕ). n * den x) (sym (top j)))) (le-trans (mul-le-mul-right (den x) a) (le-of-eq (sym (parts-cross x q k p)))) in
+    let b : 2 ^ j * 2 ^ 1074 * den x ≤ num x * 2 ^ 1074 = le-trans (le-of-eq (ap (λ (n : ℕ). n * den x) (sym (top j))))
+    (le-trans (mul-le-mul-right (den x) a) (le-of-eq (sym (parts-cross x q k p)))) in
     not-le-of-lt (mul-lt-mul-of-pos-right h (pow-pos 1074)) (le-trans (le-of-eq (mul-right-comm (2 ^ j) (den x) (2 ^ 1074))) b))
   where
     exps : (j : ℕ) → 52 + (1022 + j) ≡ j + 1074
@@ -72,8 +73,11 @@ digits-of x n j b p h w f e q =
     record { parts = parts; low = place-lt x (p .digits) (p .place) j parts (lt-of-lt-of-le (w .below) (mul-le-mul-right (den x) h)) }
 
 -- ---- the digits of what passes both questions
-pub seconds-digits : (t : Float) (b : ℕ) (p : Unpacked) → T (fits binary64 t) → not (zeroOrMore t) ≡ false → not (belowLimit t) ≡ false → b ≡ toBits binary64 t → p ≡ unpacked b → Digits t 34 p
+pub seconds-digits : (t : Float) (b : ℕ) (p : Unpacked) → T (fits binary64 t) → not (zeroOrMore t) ≡ false → not (belowLimit t) ≡ false
+    → b ≡ toBits binary64 t → p ≡ unpacked b → Digits t 34 p
 seconds-digits t b p f x y e q = digits-of t limit 34 b p (lit≤ tt) (within-limit t (yes (zeroOrMore t) x) (yes (belowLimit t) y)) f e q
 
-pub product-digits : (h : Float) (b : ℕ) (p : Unpacked) → not (zeroOrMore h) ≡ false → not (productBelow h) ≡ false → b ≡ toBits binary64 (product h) → p ≡ unpacked b → Digits (product h) 64 p
-product-digits h b p x y e q = digits-of (product h) limitNanoseconds 64 b p (lit≤ tt) (within-limit-nanoseconds h (yes (zeroOrMore h) x) (yes (productBelow h) y)) (mul-fits binary64 h (whole hour)) e q
+pub product-digits : (h : Float) (b : ℕ) (p : Unpacked) → not (zeroOrMore h) ≡ false → not (productBelow h) ≡ false → b ≡ toBits binary64 (product h)
+    → p ≡ unpacked b → Digits (product h) 64 p
+product-digits h b p x y e q =
+    digits-of (product h) limitNanoseconds 64 b p (lit≤ tt) (within-limit-nanoseconds h (yes (zeroOrMore h) x) (yes (productBelow h) y)) (mul-fits binary64 h (whole hour)) e q

@@ -1,7 +1,8 @@
 -- Fractions to the nearest whole number: ties to even by the digit of the half and what stands below it, and halves away from zero. Assumes nothing.
 use mathlib.Core.Path.{_≡_, sym, ap, _∙_}
 use Prim.Native.Nat.{ℕ, zero, suc, _+_, _*_, _/_, _%_, _≤_, _<_, compare, Ordering·lt, Ordering·eq, Ordering·gt}
-use native.Mathlib.Nat.{le-of-suc-le-suc, mul-assoc, mul-comm, mul-left-comm, mul-le-mul-right, mul-pos, add-mul, mul-add, add-assoc, zero-lt-suc, mod-eq-of-lt, div-eq-of-lt, add-div-right, div-div-eq-div-mul}
+use native.Mathlib.Nat.{le-of-suc-le-suc, mul-assoc, mul-comm, mul-left-comm, mul-le-mul-right, mul-pos, add-mul, mul-add, add-assoc, zero-lt-suc}
+use native.Mathlib.Nat.{mod-eq-of-lt, div-eq-of-lt, add-div-right, div-div-eq-div-mul}
 use native.Mathlib.Omega.{arith}
 use mathlib.Core.Bool.{not}
 use lib.Dec.{eqb, eqb·suc-zero}
@@ -50,7 +51,8 @@ closest-by-half a q h w r H R e =
 pub half-same : (a b c d : ℕ) → 0 < b → 0 < d → a * d ≡ c * b → halfAway a b ≡ halfAway c d
 half-same a b c d B D e =
     div-same (2 * a + b) (2 * b) (2 * c + d) (2 * d) (mul-pos (zero-lt-suc 1) B) (mul-pos (zero-lt-suc 1) D)
-    (add-mul (2 * a) b (2 * d) ∙ ap (λ (n : ℕ). n + b * (2 * d)) (shape a d ∙ ap (λ (n : ℕ). 2 * (2 * n)) e ∙ sym (shape c b)) ∙ ap (λ (n : ℕ). 2 * c * (2 * b) + n) (turn b d) ∙ sym (add-mul (2 * c) d (2 * b)))
+    (add-mul (2 * a) b (2 * d) ∙ ap (λ (n : ℕ). n + b * (2 * d)) (shape a d ∙ ap (λ (n : ℕ). 2 * (2 * n)) e ∙ sym (shape c b))
+    ∙ ap (λ (n : ℕ). 2 * c * (2 * b) + n) (turn b d) ∙ sym (add-mul (2 * c) d (2 * b)))
   where
     shape : (x y : ℕ) → 2 * x * (2 * y) ≡ 2 * (2 * (x * y))
     shape x y = simp (mul-assoc, mul-left-comm)

@@ -37,7 +37,17 @@ pub assemble : (y x a b q t u v r : Float) (sx sy : Bool) → T (not (isNan y)) 
     → a ≡ magnitude y → b ≡ magnitude x → q ≡ ratio a b → t ≡ arc q → u ≡ subtractedIf (lt b a) (pi ⊘ ofBits binary64 0x4000000000000000) t
     → sx ≡ signBit x → v ≡ subtractedIf sx pi u → sy ≡ signBit y → r ≡ negatedIf sy v → r ≡ atan2 y x
 assemble y x a b q t u v r sx sy m n ha hb hq ht hu hx hv hy hr =
-    hr ∙ rw (hv, hy, hu, hx, ht, hq, ha, hb) (ap (λ (w : Float). negatedIf (signBit y) (subtractedIf (signBit x) pi (subtractedIf (lt (magnitude x) (magnitude y)) (pi ⊘ w) (arc (ratio (magnitude y) (magnitude x)))))) two-is ∙ sym (both y x m n))
+    hr ∙ rw (
+      hv,
+      hy,
+      hu,
+      hx,
+      ht,
+      hq,
+      ha,
+      hb,
+    ) (ap (λ (w : Float). negatedIf (signBit y)
+    (subtractedIf (signBit x) pi (subtractedIf (lt (magnitude x) (magnitude y)) (pi ⊘ w) (arc (ratio (magnitude y) (magnitude x)))))) two-is ∙ sym (both y x m n))
 
 arc-fits : (t : Float) → T (fits binary64 (arc t))
 unfolding arc

@@ -172,5 +172,7 @@ module _ {s : Stream} {xs page mid out : List ℕ} {r t : Fed} (g : GoingOn s xs
             (text-append (g .text-of) (f .text-of));
         wrote =
             rw (nothing-after mid (r .next), append-nil out)
-            (as-length (then (g .wrote) (wrote-rest (omega (arith, g .wrote .within, g .wrote .length-is)) (subst (λ (z : List ℕ). Wrote z 0 (length (f .text)) (f .text) out (t .next)) (rest-of mid (r .next)) (f .wrote)))) refl);
+            (as-length (then (g .wrote)
+            (wrote-rest (omega (arith, g .wrote .within, g .wrote .length-is))
+            (subst (λ (z : List ℕ). Wrote z 0 (length (f .text)) (f .text) out (t .next)) (rest-of mid (r .next)) (f .wrote)))) refl);
       }

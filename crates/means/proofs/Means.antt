@@ -26,7 +26,8 @@ more-of ps p q l s e = rw s (rw (rw s at e))
 pub mean-by : (ps : List NVector) (last d : NVector) → containsAntipodal ps ≡ false → (length ps ≡ 1 → last ≡ getD ps 0 d) → meanBy (length ps) last (sum ps) ≡ meanOf ps
 mean-by [] last d e h = refl
 mean-by (p ∷ []) last d e h = ap Position (h refl) ∙ sym (one-of (p ∷ []) p refl e)
-mean-by (p ∷ q ∷ l) last d e h = rw (ne-eqb (length (p ∷ q ∷ l)) 0 (no (length l)), ne-eqb (length (p ∷ q ∷ l)) 1 (not-one (length l))) (sym (more-of (p ∷ q ∷ l) p q l refl e))
+mean-by (p ∷ q ∷ l) last d e h =
+    rw (ne-eqb (length (p ∷ q ∷ l)) 0 (no (length l)), ne-eqb (length (p ∷ q ∷ l)) 1 (not-one (length l))) (sym (more-of (p ∷ q ∷ l) p q l refl e))
   where
     no : (n : ℕ) → suc (suc n) ≡ 0 → ⊥
     no n h = omega arith
@@ -51,4 +52,5 @@ module _ (cs : List Float) where
   pub mean-more : 6 ≤ length cs → containsAntipodal (positions cs) ≡ false → meanPosition cs ≡ Position (nvectorNew (vec3Mean (positions cs)))
   unfolding meanPosition
   mean-more h e =
-      more-of (positions cs) (nthPosition cs 0) (nthPosition cs 1) (positions (drop 6 cs)) (positions-on cs 0 (omega arith) ∙ ap (λ (l : List NVector). nthPosition cs 0 ∷ l) (positions-on cs 1 (omega arith))) e
+      more-of (positions cs) (nthPosition cs 0) (nthPosition cs 1) (positions (drop 6 cs)) (positions-on cs 0 (omega arith)
+      ∙ ap (λ (l : List NVector). nthPosition cs 0 ∷ l) (positions-on cs 1 (omega arith))) e

@@ -115,7 +115,8 @@ module _ {M : Type 1} {𝓤 : URA M} {H : Heap 𝓤} {A : Atoms 𝓤} {K : Type 
       → ((q′ : Share) → Is T.the-row (getD ys i d) (tvals (getD ys i d)) → Seq K W (Entry b o ys i d κ q q′ (‵ (Own κ b o γ ys) ∷ Γ)) G)
       → Seq K W (‵ (flft κ q) ∷ ‵ (Own κ b o γ ys) ∷ Γ) G
   entry-out t z {κ} {γ = γ} l k =
-      move t (1 ∷ []) $ use1 W (‵ (Own κ b o γ ys) ⊛ ‵ (Own κ b o γ ys)) (shr-slice-copy 𝓤 H A W (named 0) κ T.the-row .twice (record { ptr = (b, o); name = γ; now = ys }) _) $
+      move t (1 ∷ []) $ use1 W (‵ (Own κ b o γ ys) ⊛ ‵ (Own κ b o γ ys))
+      (shr-slice-copy 𝓤 H A W (named 0) κ T.the-row .twice (record { ptr = (b, o); name = γ; now = ys }) _) $
       split t $ fsplit t $ drop t $ fsplit t $ drop t $ move t (0 ∷ 2 ∷ []) $
       looks-slice t z T.the-row (Is T.the-row) (shows 𝓤 H A T.the-row) tvals (LL.tells T.the-type T′.the-laws) (LL.copy T.the-type T′.the-copy 𝓤 H A W) ys b o (λ q′.
       move t (2 ∷ []) $ drop t $ elem-out t T.the-row (Is T.the-row) (shows 𝓤 H A T.the-row) tvals (LL.tells T.the-type T′.the-laws) q′ ys i d b o l (k q′))

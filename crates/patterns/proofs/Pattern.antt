@@ -34,7 +34,8 @@ nan-of (inf s) h = absurd (subst T (sym h) tt)
 nan-of (fin s m e) h = absurd (subst T (sym h) tt)
 
 pub nan-read : (b : ℕ) → 2047 * 2 ^ 52 < b % 2 ^ 63 → ofBits binary64 b ≡ nan
-nan-read b h = nan-of (ofBits binary64 b) (sym (nanBits-is binary64 b) ∙ nanBits-above binary64 b ∙ is-true (ltb (2047 * 2 ^ 52) (b % 2 ^ 63)) (lt→ltb (2047 * 2 ^ 52) (b % 2 ^ 63) h))
+nan-read b h =
+    nan-of (ofBits binary64 b) (sym (nanBits-is binary64 b) ∙ nanBits-above binary64 b ∙ is-true (ltb (2047 * 2 ^ 52) (b % 2 ^ 63)) (lt→ltb (2047 * 2 ^ 52) (b % 2 ^ 63) h))
 
 pub no-nan : (b : ℕ) → b % 2 ^ 63 ≤ 2047 * 2 ^ 52 → T (not (nanBits binary64 b))
 no-nan b h = subst (λ (t : Bool). T (not t)) (sym (nanBits-above binary64 b)) (le→nltb (2047 * 2 ^ 52) (b % 2 ^ 63) h)
@@ -47,7 +48,8 @@ fields b = refl
 pub unsigned : (b : ℕ) → b < 2 ^ 63 → ofBits binary64 b ≡ ofFields binary64 false (b / 2 ^ 52) (b % 2 ^ 52)
 unsigned b h =
     fields b
-    ∙ ap (λ (s : Bool). ofFields binary64 s (b % 2 ^ 63 / 2 ^ 52) (b % 2 ^ 52)) (is-false (leb (2 ^ 63) b) (not-T (leb (2 ^ 63) b) (λ (u : T (leb (2 ^ 63) b)). not-le-of-lt h (leb→le (2 ^ 63) b u))))
+    ∙ ap (λ (s : Bool). ofFields binary64 s (b % 2 ^ 63 / 2 ^ 52) (b % 2 ^ 52))
+    (is-false (leb (2 ^ 63) b) (not-T (leb (2 ^ 63) b) (λ (u : T (leb (2 ^ 63) b)). not-le-of-lt h (leb→le (2 ^ 63) b u))))
     ∙ ap (λ (x : ℕ). ofFields binary64 false (x / 2 ^ 52) (b % 2 ^ 52)) (mod-eq-of-lt h)
 
 at-zero : (t : ℕ) → ofFields binary64 false 0 t ≡ odd 53 false t 0 1074
@@ -56,7 +58,9 @@ at-zero t = refl
 
 under-ones : (t x : ℕ) → suc x < 2047 → ofFields binary64 false (suc x) t ≡ odd 53 false (2 ^ 52 + t) x 1074
 unfolding ofFields
-under-ones t x h = cond-no (eqb (suc x) 2047) (cond (eqb t 0) (inf false) nan) (odd 53 false (2 ^ 52 + t) x 1074) (not-T (eqb (suc x) 2047) (λ (u : T (eqb (suc x) 2047)). differ (eqb→eq (suc x) 2047 u)))
+under-ones t x h =
+    cond-no (eqb (suc x) 2047) (cond (eqb t 0) (inf false) nan) (odd 53 false (2 ^ 52 + t) x 1074)
+    (not-T (eqb (suc x) 2047) (λ (u : T (eqb (suc x) 2047)). differ (eqb→eq (suc x) 2047 u)))
   where
     differ : suc x ≡ 2047 → ⊥
     differ e = omega arith

@@ -23,7 +23,8 @@ pattern-is (inf t) s a v = absurd v
 pattern-is (fin t m e) s a v =
     let n = m * up e * 2 ^ 1074 / down e in
     let i : n ≡ a = ap (λ (y : ℕ). y / down e) (v .1) ∙ mul-div-cancel a (down-pos e) in
-    ap (λ (z : ℕ). cond t (2 ^ 63) 0 + (size z - 53) * 2 ^ 52 + z / 2 ^ (size z - 53)) i ∙ ap (λ (z : Bool). cond z (2 ^ 63) 0 + (size a - 53) * 2 ^ 52 + a / 2 ^ (size a - 53)) (v .0)
+    ap (λ (z : ℕ). cond t (2 ^ 63) 0 + (size z - 53) * 2 ^ 52 + z / 2 ^ (size z - 53)) i
+    ∙ ap (λ (z : Bool). cond z (2 ^ 63) 0 + (size a - 53) * 2 ^ 52 + a / 2 ^ (size a - 53)) (v .0)
 
 pub same-value : (x y : Float) (s : Bool) (a : ℕ) → T (fits binary64 x) → T (fits binary64 y) → HasValue x s a (2 ^ 1074) → HasValue y s a (2 ^ 1074) → x ≡ y
 same-value x y s a f g v w = sym (ofBits-toBits binary64 x f) ∙ ap (ofBits binary64) (pattern-is x s a v ∙ sym (pattern-is y s a w)) ∙ ofBits-toBits binary64 y g
@@ -53,7 +54,8 @@ field-lt x f t =
     let b = toBits binary64 x % 2 ^ 63 in
     let l : b < 2 ^ 63 = mod-lt (toBits binary64 x) (pow-pos 63) in
     let n : b / 2 ^ 52 ≡ 2047 → ⊥ =
-    λ (e : b / 2 ^ 52 ≡ 2047). at-top (b % 2 ^ 52) (subst (λ (y : Float). T (finite y)) (sym (magnitude-of x f) ∙ unsigned b l ∙ ap (λ (z : ℕ). ofFields binary64 false z (b % 2 ^ 52)) e) (finite-magnitude x t)) in
+    λ (e : b / 2 ^ 52 ≡ 2047). at-top (b % 2 ^ 52)
+    (subst (λ (y : Float). T (finite y)) (sym (magnitude-of x f) ∙ unsigned b l ∙ ap (λ (z : ℕ). ofFields binary64 false z (b % 2 ^ 52)) e) (finite-magnitude x t)) in
     omega arith
 
 -- q and k are the parts of the pattern b
@@ -78,4 +80,8 @@ parts-value x f t =
     let b = toBits binary64 x in
     let p = taken b (field-lt x f t) in
     let e : magnitude x ≡ odd 53 false (digits b) (place b) 1074 = sym (magnitude-of x f) ∙ ap (ofBits binary64) (p .pattern) ∙ packed (digits b) (place b) (p .placed) in
-    record { placed = p .placed; value = of-magnitude x (digits b * 2 ^ place b) (2 ^ 1074) (subst (λ (y : Float). HasValue y false (digits b * 2 ^ place b) (2 ^ 1074)) (sym e) (odd-sign 53 false (digits b) (place b) 1074)) }
+    record {
+      placed = p .placed;
+      value = of-magnitude x (digits b * 2 ^ place b) (2 ^ 1074)
+          (subst (λ (y : Float). HasValue y false (digits b * 2 ^ place b) (2 ^ 1074)) (sym e) (odd-sign 53 false (digits b) (place b) 1074));
+    }

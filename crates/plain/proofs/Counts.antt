@@ -6,9 +6,6 @@ use lib.Dec.{eqb}
 use lib.Ieee.{Float}
 use lib.ListN.{length}
 use Rattle.jord.specs.Length.{fromMetres}
-use Rattle.walks.specs.Outcome.{countOf}
-use Rattle.walks.specs.Counts.{Counted}
-use Rattle.walks.specs.declared.Outcome.{Outcome}
 use Rattle.walks.proofs.Counts.{counts-cpa, counts-intercept, counts-longest}
 use Rattle.plain.specs.declared.line.Scene.{Scene}
 use Rattle.plain.specs.declared.targets.Lined.{Lined}
@@ -24,23 +21,21 @@ use Rattle.plain.specs.declared.questions.Seen.{Seen}
 use Rattle.plain.specs.declared.questions.Seen.the-variants.{Lacks, Sees}
 use Rattle.plain.specs.Line.{solveLine}
 use Rattle.plain.specs.Targets.{find}
-use Rattle.plain.specs.Questions.{ask, identityAsked, fixFiniteAsked, fixUnitAsked, speedAsked, askFix, endsFiniteAsked, endsUnitAsked, circleAsked, askEnds, heldAsked, roomAsked, see, solved}
+use Rattle.plain.specs.Questions.{ask, identityAsked, fixFiniteAsked, fixUnitAsked, speedAsked, askFix, endsFiniteAsked, endsUnitAsked}
+use Rattle.plain.specs.Questions.{circleAsked, askEnds, heldAsked, roomAsked, see, solved}
 use Rattle.plain.specs.Board.{Plain, answer, after, answers}
 use Rattle.plain.specs.History.{heard, accepts, lineGiven, newLine, hearLine, lastLine}
-use Rattle.plain.specs.Demand3.{CountFits, CountsFit, AnswerFits, AnswersFit, LineFits}
+use Rattle.plain.specs.Demand3.{CountsFit, AnswerFits, AnswersFit, LineFits}
 use Rattle.plain.proofs.Steps.{ask-elim}
-
-counted : (o : Outcome) → Counted (countOf o) → CountFits o
-counted o c = record { least = c .some; most = c .most }
 
 -- of what a solve computes this alone is used
 solve-fits : (r : Float) (v : Scene) → CountsFit (solveLine r v)
 unfolding solveLine
 solve-fits r v =
     record {
-      closest = counted _ (counts-cpa (fromMetres r) (v .own) (v .report));
-      meeting = counted _ (counts-intercept (fromMetres r) (v .own .position) (v .own .speed) (v .report));
-      longest = counted _ (counts-longest (fromMetres r) (v .own .position) (v .report));
+      closest = counts-cpa (fromMetres r) (v .own) (v .report);
+      meeting = counts-intercept (fromMetres r) (v .own .position) (v .own .speed) (v .report);
+      longest = counts-longest (fromMetres r) (v .own .position) (v .report);
     }
 
 fits-ask : (s : Said) (a : Answer) → AnswerFits a → AnswerFits (ask s a)

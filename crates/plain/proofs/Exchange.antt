@@ -195,7 +195,8 @@ module _ (ids : List ℕ) (fits : length ids ≤ mostTargets) where
       (after-apart b d c j i s ed ec md mc back
       ∙ rw (step-at b d j s ed md)
       (rw (
-        place-place 0 i j (cell c (reply b c (find i (b .targets))) (find i (b .targets))) (cell d (reply b d (find j (b .targets))) (find j (b .targets))) (b .targets) there (omega arith) (omega arith) (rising-0 ids b s),
+        place-place 0 i j (cell c (reply b c (find i (b .targets))) (find i (b .targets)))
+            (cell d (reply b d (find j (b .targets))) (find j (b .targets))) (b .targets) there (omega arith) (omega arith) (rising-0 ids b s),
         raised-comm (reply b c (find i (b .targets))) (reply b d (find j (b .targets))) (b .total),
       ))))
 

@@ -18,7 +18,8 @@ use Rattle.plain.specs.declared.call.Call.the-variants.{Report, Withdraw
 use Rattle.plain.specs.declared.call.Answer.{Answer}
 use Rattle.plain.specs.declared.call.Answer.the-variants.{Done, Solved, Refused}
 use Rattle.plain.specs.declared.call.Refusal.{Refusal}
-use Rattle.plain.specs.declared.call.Refusal.the-variants.{RadiusNotPositive, IdentityZero, NotFinite, NotUnit, SpeedNegative, NoGreatCircle, NotHeld, BoardFull, NoOwnShip, NoTrack, NoMeeting}
+use Rattle.plain.specs.declared.call.Refusal.the-variants.{RadiusNotPositive, IdentityZero, NotFinite, NotUnit, SpeedNegative, NoGreatCircle}
+use Rattle.plain.specs.declared.call.Refusal.the-variants.{NotHeld, BoardFull, NoOwnShip, NoTrack, NoMeeting}
 
 -- "Three numbers handed over as a position pass through `Vec3::new`"
 abbrev pub position : Coordinates → NVector

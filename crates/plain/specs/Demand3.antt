@@ -7,8 +7,7 @@ use lib.Ieee.{Float}
 use lib.ListN.{length}
 use Rattle.jord.specs.declared.vehicle.Vehicle.{Vehicle}
 use Rattle.walks.specs.Outcome.{countOf}
-use Rattle.walks.specs.Walk.{mostSteps}
-use Rattle.walks.specs.declared.Outcome.{Outcome}
+use Rattle.walks.specs.Counts.{Counted}
 use Rattle.plain.specs.declared.line.Line.{Line}
 use Rattle.plain.specs.declared.targets.Lined.{Lined}
 use Rattle.plain.specs.declared.targets.Lined.the-variants.{Bare, With}
@@ -25,14 +24,10 @@ use Rattle.plain.specs.History.{heard, handedOut, LastReported, lastLine
 use Rattle.plain.specs.Exchange.{identities, exchanged, MayExchange}
 
 -- "Each step count in a line is from 1 to 50"
-pub record CountFits (o : Outcome) : Type 0 where
-  pub least : 1 ≤ countOf o
-  pub most : countOf o ≤ mostSteps
-
 pub record CountsFit (l : Line) : Type 0 where
-  pub closest : CountFits (l .closest)
-  pub meeting : CountFits (l .meeting)
-  pub longest : CountFits (l .longest)
+  pub closest : Counted (countOf (l .closest))
+  pub meeting : Counted (countOf (l .meeting))
+  pub longest : Counted (countOf (l .longest))
 
 -- each step count of the line in an answer, if there is one, is from 1 to 50
 abbrev pub AnswerFits : Answer → Type 0

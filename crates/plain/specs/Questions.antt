@@ -19,7 +19,8 @@ use Rattle.plain.specs.declared.state.Tracked.the-variants.{Nowhere, Alo
 use Rattle.plain.specs.declared.call.Coordinates.{Coordinates}
 use Rattle.plain.specs.declared.call.Fix.{Fix}
 use Rattle.plain.specs.declared.call.Refusal.{Refusal}
-use Rattle.plain.specs.declared.call.Refusal.the-variants.{RadiusNotPositive, IdentityZero, NotFinite, NotUnit, SpeedNegative, NoGreatCircle, NotHeld, BoardFull, NoOwnShip, NoTrack}
+use Rattle.plain.specs.declared.call.Refusal.the-variants.{RadiusNotPositive, IdentityZero, NotFinite, NotUnit, SpeedNegative, NoGreatCircle}
+use Rattle.plain.specs.declared.call.Refusal.the-variants.{NotHeld, BoardFull, NoOwnShip, NoTrack}
 use Rattle.plain.specs.declared.call.Answer.{Answer}
 use Rattle.plain.specs.declared.call.Answer.the-variants.{Solved, Refused}
 use Rattle.plain.specs.declared.questions.Said.{Said}

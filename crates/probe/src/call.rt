@@ -3,7 +3,6 @@ use probe_fields::fields;
 use probe_fields::fields::ARGUMENTS;
 use probe_ways::LENT;
 use probe_ways::MEAN;
-use probe_ways::ways;
 
 // The bytes of a call with as many arguments as there is room for.
 pub const MOST_LINE_BYTES: usize = 2 + 17 * ARGUMENTS;
@@ -15,8 +14,7 @@ fn arity(f: u64) -> usize {
         0x14..=0x56 | 0x66 => probe_jord::arity(f),
         0x60..=0x65 => probe_sphere::arity(f),
         0x70..=0x78 | 0x7a => probe_sphere::arity(f),
-        0x80..=0x8c => ways::arity(f),
-        _ => probe_fields::UNKNOWN,
+        _ => probe_ways::arity(f),
     }
 }
 

@@ -6,7 +6,7 @@ use crate::fields::put_whole;
 use crate::fields::whole_at;
 
 // How many arguments a function takes.
-pub fn arity(f: u64) -> usize {
+pub(crate) fn arity(f: u64) -> usize {
     match f {
         0x06 | 0x09 => 2,
         _ => 1,
@@ -14,7 +14,7 @@ pub fn arity(f: u64) -> usize {
 }
 
 // The result fields of a function, over the page from at on, and the place past them.
-pub fn answer(f: u64, args: &[u64], page: &mut [u8], at: usize) -> usize {
+pub(crate) fn answer(f: u64, args: &[u64], page: &mut [u8], at: usize) -> usize {
     let x = float_at(args, 0);
     match f {
         0x01 => put_bool(page, at, patterns::sign_bit(x)),

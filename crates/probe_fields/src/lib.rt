@@ -1,10 +1,10 @@
 // The fields of a call of the program probe, and the calls of the float ground, numbers and durations by their number.
 use crate::fields::put_refusal;
 
-pub mod durations;
+mod durations;
 pub mod fields;
-pub mod floats;
-pub mod numbers;
+mod floats;
+mod numbers;
 
 // More arguments than a line has room for: how many a number takes that is no function's.
 pub const UNKNOWN: usize = 99;

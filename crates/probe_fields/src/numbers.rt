@@ -3,7 +3,7 @@ use crate::fields::float_at;
 use crate::fields::put_bool;
 
 // How many arguments a function takes.
-pub fn arity(f: u64) -> usize {
+pub(crate) fn arity(f: u64) -> usize {
     match f {
         0x10 => 1,
         _ => 2,
@@ -11,7 +11,7 @@ pub fn arity(f: u64) -> usize {
 }
 
 // The result fields of a function, over the page from at on, and the place past them.
-pub fn answer(f: u64, args: &[u64], page: &mut [u8], at: usize) -> usize {
+pub(crate) fn answer(f: u64, args: &[u64], page: &mut [u8], at: usize) -> usize {
     put_bool(page, at, value(f, float_at(args, 0), float_at(args, 1)))
 }
 

@@ -2,10 +2,10 @@
 use probe_fields::UNKNOWN;
 use probe_fields::fields::put_refusal;
 
-pub mod mat33;
-pub mod positions;
-pub mod units;
-pub mod vec3;
+mod mat33;
+mod positions;
+mod units;
+mod vec3;
 
 // How many arguments the function of a number takes.
 pub fn arity(f: u64) -> usize {

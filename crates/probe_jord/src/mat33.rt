@@ -6,7 +6,7 @@ use probe_fields::fields::vec3_at;
 use vectors::mat33::Mat33;
 
 // How many arguments a function takes.
-pub fn arity(f: u64) -> usize {
+pub(crate) fn arity(f: u64) -> usize {
     match f {
         0x41 => 9,
         0x42 => 12,
@@ -15,7 +15,7 @@ pub fn arity(f: u64) -> usize {
 }
 
 // The result fields of a function, over the page from at on, and the place past them.
-pub fn answer(f: u64, args: &[u64], page: &mut [u8], at: usize) -> usize {
+pub(crate) fn answer(f: u64, args: &[u64], page: &mut [u8], at: usize) -> usize {
     match f {
         0x41 => put_mat33(page, at, mat33_at(args, 0).transpose()),
         0x42 => put_vec3(

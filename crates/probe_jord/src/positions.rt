@@ -12,7 +12,7 @@ use probe_fields::fields::put_gap;
 use probe_fields::fields::put_vec3;
 
 // How many arguments a function takes.
-pub fn arity(f: u64) -> usize {
+pub(crate) fn arity(f: u64) -> usize {
     match f {
         0x51 | 0x55 => 3,
         0x56 => 6,
@@ -22,7 +22,7 @@ pub fn arity(f: u64) -> usize {
 }
 
 // The result fields of a function, over the page from at on, and the place past them.
-pub fn answer(f: u64, args: &[u64], page: &mut [u8], at: usize) -> usize {
+pub(crate) fn answer(f: u64, args: &[u64], page: &mut [u8], at: usize) -> usize {
     let x = float_at(args, 0);
     let y = float_at(args, 1);
     let p = nvector_at(args, 0);

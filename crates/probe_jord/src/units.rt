@@ -7,7 +7,7 @@ use probe_fields::fields::put_float;
 use probe_fields::fields::whole_at;
 
 // How many arguments a function takes.
-pub fn arity(f: u64) -> usize {
+pub(crate) fn arity(f: u64) -> usize {
     match f {
         0x18 | 0x19 => 2,
         0x21 | 0x22 | 0x23 => 2,
@@ -17,7 +17,7 @@ pub fn arity(f: u64) -> usize {
 }
 
 // The result fields of a function, over the page from at on, and the place past them.
-pub fn answer(f: u64, args: &[u64], page: &mut [u8], at: usize) -> usize {
+pub(crate) fn answer(f: u64, args: &[u64], page: &mut [u8], at: usize) -> usize {
     let x = float_at(args, 0);
     let y = float_at(args, 1);
     match f {

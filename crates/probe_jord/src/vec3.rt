@@ -6,7 +6,7 @@ use probe_fields::fields::vec3_at;
 use vectors::vec3::Vec3;
 
 // How many arguments a function takes.
-pub fn arity(f: u64) -> usize {
+pub(crate) fn arity(f: u64) -> usize {
     match f {
         0x32..=0x35 => 6,
         0x38 | 0x39 => 6,
@@ -17,7 +17,7 @@ pub fn arity(f: u64) -> usize {
 }
 
 // The result fields of a function, over the page from at on, and the place past them.
-pub fn answer(f: u64, args: &[u64], page: &mut [u8], at: usize) -> usize {
+pub(crate) fn answer(f: u64, args: &[u64], page: &mut [u8], at: usize) -> usize {
     let v = vec3_at(args, 0);
     let o = vec3_at(args, 3);
     match f {

@@ -10,7 +10,7 @@ use probe_fields::fields::put_vec3;
 use probe_fields::fields::vec3_at;
 
 // How many arguments a function takes.
-pub fn arity(f: u64) -> usize {
+pub(crate) fn arity(f: u64) -> usize {
     match f {
         0x60 | 0x64 => 6,
         0x61 | 0x63 => 9,
@@ -20,7 +20,7 @@ pub fn arity(f: u64) -> usize {
 }
 
 // The result fields of a function, over the page from at on, and the place past them.
-pub fn answer(f: u64, args: &[u64], page: &mut [u8], at: usize) -> usize {
+pub(crate) fn answer(f: u64, args: &[u64], page: &mut [u8], at: usize) -> usize {
     let a = vec3_at(args, 0);
     let b = vec3_at(args, 3);
     match f {

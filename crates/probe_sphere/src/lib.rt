@@ -2,7 +2,7 @@
 use probe_fields::UNKNOWN;
 use probe_fields::fields::put_refusal;
 
-pub mod great_circles;
+mod great_circles;
 pub mod sphere;
 
 // How many arguments the function of a number takes.

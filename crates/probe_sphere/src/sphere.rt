@@ -16,7 +16,7 @@ use spherical::sphere::Sphere;
 use walks::Outcome;
 
 // How many arguments a function takes.
-pub fn arity(f: u64) -> usize {
+pub(crate) fn arity(f: u64) -> usize {
     match f {
         0x70 | 0x71 | 0x73 => 6,
         0x72 => 7,
@@ -28,7 +28,7 @@ pub fn arity(f: u64) -> usize {
 }
 
 // The result fields of a function, over the page from at on, and the place past them.
-pub fn answer(f: u64, args: &[u64], page: &mut [u8], at: usize) -> usize {
+pub(crate) fn answer(f: u64, args: &[u64], page: &mut [u8], at: usize) -> usize {
     match f {
         0x70 => put_bool(
             page,

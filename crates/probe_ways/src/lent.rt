@@ -10,7 +10,7 @@ use probe_fields::fields::nvector_at;
 const POSITIONS: usize = 6;
 
 // The result fields, over the page from at on, and the place past them.
-pub fn answer(args: &[u64], n: usize, page: &mut [u8], at: usize) -> usize {
+pub(crate) fn answer(args: &[u64], n: usize, page: &mut [u8], at: usize) -> usize {
     let ps = [
         nvector_at(args, 0),
         nvector_at(args, 3),

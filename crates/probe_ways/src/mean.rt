@@ -8,7 +8,7 @@ use probe_fields::fields::put_short;
 use probe_fields::fields::put_vec3;
 
 // The result fields, over the page from at on, and the place past them.
-pub fn answer(args: &[u64], n: usize, page: &mut [u8], at: usize) -> usize {
+pub(crate) fn answer(args: &[u64], n: usize, page: &mut [u8], at: usize) -> usize {
     let cs = coordinates(args);
     put_mean(page, at, mean_of(&cs, n))
 }
@@ -34,7 +34,7 @@ fn coordinates(args: &[u64]) -> [f64; ARGUMENTS] {
 }
 
 // 00 and the position, or the number of the reason why there is none.
-pub fn put_mean(page: &mut [u8], at: usize, m: Mean) -> usize {
+pub(crate) fn put_mean(page: &mut [u8], at: usize, m: Mean) -> usize {
     let number = m.number();
     match m {
         Mean::Position(p) => {

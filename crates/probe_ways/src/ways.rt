@@ -19,7 +19,7 @@ use spherical::interpolated::Interpolated;
 use spherical::sphere::Sphere;
 
 // How many arguments a function takes.
-pub fn arity(f: u64) -> usize {
+pub(crate) fn arity(f: u64) -> usize {
     match f {
         0x80 | 0x89 | 0x8a => 9,
         0x81 | 0x85 | 0x86 => 6,
@@ -31,7 +31,7 @@ pub fn arity(f: u64) -> usize {
 }
 
 // The result fields of a function, over the page from at on, and the place past them.
-pub fn answer(f: u64, args: &[u64], page: &mut [u8], at: usize) -> usize {
+pub(crate) fn answer(f: u64, args: &[u64], page: &mut [u8], at: usize) -> usize {
     match f {
         0x81 => put_arc(
             page,

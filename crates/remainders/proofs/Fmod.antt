@@ -1,7 +1,8 @@
 -- `rem` of two finite values is the remainder of their numbers of units, and the patterns order the magnitudes. Assumes nothing.
 use mathlib.Core.Path.{_≡_, refl, sym, ap, _∙_, subst}
 use Prim.Native.Nat.{ℕ, zero, suc, _+_, _-_, _*_, _%_, _^_, _≤_, _<_}
-use native.Mathlib.Nat.{le-trans, le-of-eq, le-of-lt, lt-of-lt-of-le, lt-irrefl, eq-zero-or-pos, zero-lt-suc, zero-mul, mul-pos, mul-assoc, mul-comm, mul-right-comm, mul-le-mul-left, mul-le-mul-right, mul-lt-mul-of-pos-right, mod-lt, mod-eq-of-lt, eq-of-mul-eq-mul-right}
+use native.Mathlib.Nat.{le-trans, le-of-eq, le-of-lt, lt-of-lt-of-le, lt-irrefl, eq-zero-or-pos, zero-lt-suc, zero-mul, mul-pos, mul-assoc, mul-comm}
+use native.Mathlib.Nat.{mul-right-comm, mul-le-mul-left, mul-le-mul-right, mul-lt-mul-of-pos-right, mod-lt, mod-eq-of-lt, eq-of-mul-eq-mul-right}
 use native.Mathlib.Omega.{arith}
 use mathlib.Core.Logic.{inl, inr}
 use mathlib.Core.Bool.{Bool, true, false, not, cond}
@@ -43,7 +44,8 @@ over-units X Y D a b Yp bp Dp x y =
     ∙ ap (λ (n : ℕ). a * D % n) y
     ∙ mul-mod-mul a b D bp Dp
 
-rem-fin : (s : Bool) (m : ℕ) (e : ℤ) (t : Bool) (n : ℕ) (d : ℤ) → rem binary64 (fin s m e) (fin t (suc n) d) ≡ round binary64 s (m * up e * down d % (suc n * up d * down e)) (down e * down d)
+rem-fin : (s : Bool) (m : ℕ) (e : ℤ) (t : Bool) (n : ℕ) (d : ℤ)
+    → rem binary64 (fin s m e) (fin t (suc n) d) ≡ round binary64 s (m * up e * down d % (suc n * up d * down e)) (down e * down d)
 unfolding rem
 rem-fin s m e t n d = ap (λ (b : Bool). cond b nan (round binary64 s (m * up e * down d % (suc n * up d * down e)) (down e * down d))) (eqb·suc-zero n)
 
@@ -63,7 +65,8 @@ rem-value (fin s m e) (fin t (suc n) d) a b q k v w p h small l =
     let Y = suc n * up d * down e in
     let Yp : 0 < Y = mul-pos (mul-pos (zero-lt-suc n) (up-pos d)) (down-pos e) in
     let x : X * 2 ^ 1074 ≡ a * D = mul-right-comm (m * up e) (down d) (2 ^ 1074) ∙ ap (λ (z : ℕ). z * down d) (v .1) ∙ mul-assoc a (down e) (down d) in
-    let y : Y * 2 ^ 1074 ≡ b * D = mul-right-comm (suc n * up d) (down e) (2 ^ 1074) ∙ ap (λ (z : ℕ). z * down e) (w .1) ∙ mul-assoc b (down d) (down e) ∙ ap (λ (z : ℕ). b * z) (mul-comm (down d) (down e)) in
+    let y : Y * 2 ^ 1074 ≡ b * D = mul-right-comm (suc n * up d) (down e) (2 ^ 1074) ∙ ap (λ (z : ℕ). z * down e) (w .1)
+    ∙ mul-assoc b (down d) (down e) ∙ ap (λ (z : ℕ). b * z) (mul-comm (down d) (down e)) in
     let i : X % Y * 2 ^ 1074 ≡ q * 2 ^ k * D = over-units X Y D a b Yp p Dp x y ∙ ap (λ (z : ℕ). z * D) h in
     subst (λ (z : Float). HasValue z s (q * 2 ^ k) (2 ^ 1074)) (sym (rem-fin s m e t n d))
     (rescale (round binary64 s (X % Y) D) s (X % Y) D (q * 2 ^ k) (2 ^ 1074) Dp (sym i)
@@ -156,7 +159,8 @@ rem-by-infinity : (r : Bool) (m : ℕ) (e : ℤ) (s : Bool) → rem binary64 (fi
 unfolding rem
 rem-by-infinity r m e s = refl
 
-pub rem-of-smaller : (x y : Float) → T (fits binary64 x) → T (fits binary64 y) → T (not (isNan y)) → T (finite x) → toBits binary64 x % 2 ^ 63 < toBits binary64 y % 2 ^ 63 → x ≡ rem binary64 x y
+pub rem-of-smaller : (x y : Float) → T (fits binary64 x) → T (fits binary64 y) → T (not (isNan y)) → T (finite x)
+    → toBits binary64 x % 2 ^ 63 < toBits binary64 y % 2 ^ 63 → x ≡ rem binary64 x y
 rem-of-smaller x nan f g n t h = absurd (nan-is-nan n)
 rem-of-smaller nan (inf s) f g n t h = absurd t
 rem-of-smaller (inf r) (inf s) f g n t h = absurd t
@@ -170,7 +174,8 @@ rem-of-smaller x (fin s n d) f g _ t h =
     let l : place-of x * 2 ^ 52 + digits-of x < place-of y * 2 ^ 52 + digits-of y = rw (a, b) at h in
     let o : units-of x < units-of y = units-order (digits-of x) (place-of x) (digits-of y) (place-of y) (p .placed) (q .placed) l in
     same-value x (rem binary64 x y) (signBit x) (units-of x) f (rem-fits binary64 x y f) (p .value)
-    (rem-value x y (units-of x) (units-of y) (digits-of x) (place-of x) (p .value) (q .value) (positive (units-of x) (units-of y) o) (mod-eq-of-lt o) (p .placed .small) (p .placed .under))
+    (rem-value x y (units-of x) (units-of y) (digits-of x) (place-of x) (p .value) (q .value) (positive (units-of x) (units-of y) o) (mod-eq-of-lt o)
+    (p .placed .small) (p .placed .under))
   where
     positive : (m n : ℕ) → m < n → 0 < n
     positive m n h = omega arith
@@ -197,7 +202,8 @@ pub record Divides (x y : Float) : Type 0 where
   pub order : place-of y ≤ place-of x
   pub is : rem binary64 x y ≡ with-sign (signBit x) (rem-parts (unpacked (toBits binary64 x)) (unpacked (toBits binary64 y)))
 
-pub rem-of-larger : (x y : Float) → T (fits binary64 x) → T (fits binary64 y) → T (finite x) → (toBits binary64 y % 2 ^ 63 ≡ 0 → ⊥) → toBits binary64 y % 2 ^ 63 ≤ toBits binary64 x % 2 ^ 63 → Divides x y
+pub rem-of-larger : (x y : Float) → T (fits binary64 x) → T (fits binary64 y) → T (finite x) → (toBits binary64 y % 2 ^ 63 ≡ 0 → ⊥)
+    → toBits binary64 y % 2 ^ 63 ≤ toBits binary64 x % 2 ^ 63 → Divides x y
 rem-of-larger x y f g t z h =
     let i = field-lt x f t in
     let u : T (finite y) = below-infinity y (omega arith) in
@@ -221,7 +227,8 @@ rem-of-larger x y f g t z h =
       small = q .placed .small;
       order = o;
       is =
-          same-value (rem binary64 x y) (odd 53 (signBit x) (Q % digits-of y) j 1074) (signBit x) (Q % digits-of y * 2 ^ j) (rem-fits binary64 x y f) (odd-held (signBit x) (Q % digits-of y) j s (q .placed .under))
+          same-value (rem binary64 x y) (odd 53 (signBit x) (Q % digits-of y) j 1074) (signBit x) (Q % digits-of y * 2 ^ j) (rem-fits binary64 x y f)
+          (odd-held (signBit x) (Q % digits-of y) j s (q .placed .under))
           (rem-value x y (units-of x) (units-of y) (Q % digits-of y) j (p .value) (q .value) (mul-pos D (pow-pos j)) e s (q .placed .under))
           (odd-sign 53 (signBit x) (Q % digits-of y) j 1074)
           ∙ odd-with-sign (signBit x) (Q % digits-of y) j;

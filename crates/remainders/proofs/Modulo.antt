@@ -1,7 +1,9 @@
 -- Remainders of products, the running remainder of a shifted number, long division, and Barrett's estimate of a quotient. Assumes nothing.
 use mathlib.Core.Path.{_≡_, sym, ap, ap₂, _∙_}
 use Prim.Native.Nat.{ℕ, suc, _+_, _-_, _*_, _/_, _%_, _^_, _≤_, _<_}
-use native.Mathlib.Nat.{mul-assoc, mul-comm, mul-right-comm, add-mul, add-comm, div-add-mod', div-mul-le-self, lt-div-mul-add, mul-add-div-right, mod-lt, mul-mod-left, add-mul-mod-self-right, mul-lt-mul-of-pos-right, mul-le-mul-left, mul-le-mul-right, le-of-mul-le-mul-right, lt-of-mul-lt-mul-right, mul-pos, mul-mul-mul-comm, mul-div-mul-right, mod-eq-of-lt, mod-eq-sub-mod}
+use native.Mathlib.Nat.{mul-assoc, mul-comm, mul-right-comm, add-mul, add-comm, div-add-mod', div-mul-le-self, lt-div-mul-add, mul-add-div-right}
+use native.Mathlib.Nat.{mod-lt, mul-mod-left, add-mul-mod-self-right, mul-lt-mul-of-pos-right, mul-le-mul-left, mul-le-mul-right}
+use native.Mathlib.Nat.{le-of-mul-le-mul-right, lt-of-mul-lt-mul-right, mul-pos, mul-mul-mul-comm, mul-div-mul-right, mod-eq-of-lt, mod-eq-sub-mod}
 use native.Mathlib.Omega.{arith}
 use lib.Arith.{digits-mod}
 use lib.Pow.{pow-pos, pow-add, shl-shr, shl-exact}
@@ -14,7 +16,8 @@ once x m h l = sym (mod-eq-sub-mod h ∙ mod-eq-of-lt (omega arith))
 pub mod-mul : (a b m : ℕ) → a % m * b % m ≡ a * b % m
 mod-mul a b m =
     sym (add-mul-mod-self-right (a % m * b) (a / m * b) m)
-    ∙ ap (λ (n : ℕ). n % m) (ap (λ (n : ℕ). a % m * b + n) (mul-right-comm (a / m) b m) ∙ add-comm (a % m * b) (a / m * m * b) ∙ sym (add-mul (a / m * m) (a % m) b) ∙ ap (λ (n : ℕ). n * b) (div-add-mod' a m))
+    ∙ ap (λ (n : ℕ). n % m) (ap (λ (n : ℕ). a % m * b + n) (mul-right-comm (a / m) b m) ∙ add-comm (a % m * b) (a / m * m * b)
+    ∙ sym (add-mul (a / m * m) (a % m) b) ∙ ap (λ (n : ℕ). n * b) (div-add-mod' a m))
 
 pub mul-mod : (a b m : ℕ) → a * (b % m) % m ≡ a * b % m
 mul-mod a b m = ap (λ (n : ℕ). n % m) (mul-comm a (b % m)) ∙ mod-mul b a m ∙ ap (λ (n : ℕ). n % m) (mul-comm b a)
@@ -110,5 +113,6 @@ module _ (p m D W : ℕ) where
         let w = mul-le-mul-right m (lt-div-mul-add {a = leading * inverse} Wp) in
         lt-of-mul-lt-mul-right W (chain leading inverse estimate p m D W Wp u v w (mul-le-mul-right m h) (mul-le-mul-right m i))
       where
-        chain : (h i q p m D W : ℕ) → 0 < W → suc p * W ≤ (h * D + D) * W → (h + 1) * suc (D * W) ≤ (h + 1) * (i * m + m) → suc (h * i) * m ≤ (q * W + W) * m → h * m ≤ W * m → i * m ≤ W * m → p * W < (q + 3) * m * W
+        chain : (h i q p m D W : ℕ) → 0 < W → suc p * W ≤ (h * D + D) * W → (h + 1) * suc (D * W) ≤ (h + 1) * (i * m + m)
+            → suc (h * i) * m ≤ (q * W + W) * m → h * m ≤ W * m → i * m ≤ W * m → p * W < (q + 3) * m * W
         chain h i q p m D W Wp u v w x y = omega arith

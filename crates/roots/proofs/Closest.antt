@@ -3,7 +3,10 @@
 use mathlib.Core.Path.{_≡_, refl, sym, ap, _∙_}
 use mathlib.Core.Logic.{inl, inr}
 use Prim.Native.Nat.{ℕ, zero, suc, _+_, _-_, _*_, _/_, _%_, _^_, _≤_, _<_, compare, Ordering, Ordering·lt, Ordering·eq, Ordering·gt}
-use native.Mathlib.Nat.{le-refl, le-trans, le-of-eq, le-of-lt, lt-of-lt-of-le, lt-of-le-of-lt, lt-of-not-le, not-le-of-lt, eq-zero-or-pos, mul-one, mul-comm, mul-assoc, mul-mul-mul-comm, add-mul, mul-le-mul, mul-le-mul-left, mul-le-mul-right, mul-lt-mul-of-pos-right, lt-of-mul-lt-mul-right, eq-of-mul-eq-mul-right, div-lt-iff-lt-mul, le-div-iff-mul-le, div-mul-le-self, pow-succ', mul-left-comm}
+use native.Mathlib.Nat.{le-refl, le-trans, le-of-eq, le-of-lt, lt-of-lt-of-le, lt-of-le-of-lt, lt-of-not-le, not-le-of-lt, eq-zero-or-pos, mul-one}
+use native.Mathlib.Nat.{mul-comm, mul-assoc, mul-mul-mul-comm, add-mul, mul-le-mul, mul-le-mul-left, mul-le-mul-right, mul-lt-mul-of-pos-right}
+use native.Mathlib.Nat.{lt-of-mul-lt-mul-right, eq-of-mul-eq-mul-right, div-lt-iff-lt-mul, le-div-iff-mul-le, div-mul-le-self, pow-succ'}
+use native.Mathlib.Nat.{mul-left-comm}
 use native.Mathlib.Omega.{arith}
 use mathlib.Core.Bool.{false}
 use lib.Pow.{pow-pos, pow-add, pow-mono}
@@ -58,7 +61,10 @@ multiple v k b h big l =
     back j k h = omega arith
 
     least : (k j : ℕ) → 2 ^ 52 * 2 ^ k < 2 ^ 53 * 2 ^ j → k ≤ j
-    least k j h = le-of-suc (lt-of-not-le (λ (g : suc j ≤ k). not-le-of-lt h (le-trans (le-of-eq (sym (pow-add 2 53 j) ∙ ap (λ (n : ℕ). 2 ^ n) (shift j) ∙ pow-add 2 52 (suc j))) (mul-le-mul-left (2 ^ 52) (pow-mono g)))))
+    least k j h =
+        le-of-suc (lt-of-not-le
+        (λ (g : suc j ≤ k). not-le-of-lt h
+        (le-trans (le-of-eq (sym (pow-add 2 53 j) ∙ ap (λ (n : ℕ). 2 ^ n) (shift j) ∙ pow-add 2 52 (suc j))) (mul-le-mul-left (2 ^ 52) (pow-mono g)))))
       where
         shift : (j : ℕ) → 53 + j ≡ 52 + suc j
         shift j = omega arith
@@ -127,9 +133,11 @@ module _ (a : ℕ) (d p : ℕ) (digits : d < 2 ^ 53) (is : a ≡ d * 2 ^ p) wher
   no-tie : 4 * a ≡ S → ⊥
   no-tie e =
       let O = (2 * q a + 1) * (2 * q a + 1) in
-      let f : d * 2 ^ (p + 2) ≡ O * 2 ^ (k a + k a) = sym four-a ∙ e ∙ mul-mul-mul-comm (2 * q a + 1) (2 ^ k a) (2 * q a + 1) (2 ^ k a) ∙ ap (λ (n : ℕ). O * n) (sym (pow-add 2 (k a) (k a))) in
+      let f : d * 2 ^ (p + 2) ≡ O * 2 ^ (k a + k a) = sym four-a ∙ e ∙ mul-mul-mul-comm (2 * q a + 1) (2 ^ k a) (2 * q a + 1) (2 ^ k a)
+      ∙ ap (λ (n : ℕ). O * n) (sym (pow-add 2 (k a) (k a))) in
       elim (eq-zero-or-pos (k a)) [
-        | inl z ↦ odd-square (2 * q a + 1) O (4 * a) refl (odd (q a)) (even a) (sym (e ∙ ap (λ (n : ℕ). (2 * q a + 1) * 2 ^ n * ((2 * q a + 1) * 2 ^ n)) z ∙ mul-mul-mul-comm (2 * q a + 1) 1 (2 * q a + 1) 1 ∙ mul-one O))
+        | inl z ↦ odd-square (2 * q a + 1) O (4 * a) refl (odd (q a)) (even a)
+            (sym (e ∙ ap (λ (n : ℕ). (2 * q a + 1) * 2 ^ n * ((2 * q a + 1) * 2 ^ n)) z ∙ mul-mul-mul-comm (2 * q a + 1) 1 (2 * q a + 1) 1 ∙ mul-one O))
         | inr z ↦ odd-part d (p + 2) O (k a + k a) (lt-of-lt-of-le digits (le-trans (above (q a) (big z)) (self (2 * q a + 1)))) (odd-of (q a)) f
       ]
     where
@@ -154,7 +162,8 @@ module _ (a : ℕ) (d p : ℕ) (digits : d < 2 ^ 53) (is : a ≡ d * 2 ^ p) wher
   reach Ordering·lt c = c
   reach Ordering·eq c = absurd (no-tie c)
   reach Ordering·gt c =
-      lt-of-lt-of-le twice-high (square (le-trans (mul-le-mul-left 2 high) (le-trans (le-of-eq (sym (mul-assoc 2 (q a + 1) (2 ^ k a)))) (mul-le-mul-right (2 ^ k a) (more (q a))))))
+      lt-of-lt-of-le twice-high
+      (square (le-trans (mul-le-mul-left 2 high) (le-trans (le-of-eq (sym (mul-assoc 2 (q a + 1) (2 ^ k a)))) (mul-le-mul-right (2 ^ k a) (more (q a))))))
     where
       more : (n : ℕ) → 2 * (n + 1) ≤ 2 * suc n + 1
       more n = omega arith

@@ -19,10 +19,14 @@ use Rattle.roots.proofs.RoundRoot.{rounded}
 -- ---- `units` of a significand is its value
 units-held : (q k : ℕ) → q < 2 ^ 53 → k < 2046 → T (fits binary64 (units binary64 false q k))
 unfolding units
-units-held q k h l = cond-fits binary64 (ltb (q * 2 ^ k) (2 ^ 2098)) (odd 54 false q k 1074) (inf false) (odd-fits binary64 54 false q k (lt-of-lt-of-le h (lit≤ tt)) (le-of-lt h) (units-lt q k h l)) (inf-fits binary64 false)
+units-held q k h l =
+    cond-fits binary64 (ltb (q * 2 ^ k) (2 ^ 2098)) (odd 54 false q k 1074) (inf false)
+    (odd-fits binary64 54 false q k (lt-of-lt-of-le h (lit≤ tt)) (le-of-lt h) (units-lt q k h l)) (inf-fits binary64 false)
 
 units-is : (q k : ℕ) → q < 2 ^ 53 → k < 2046 → odd 53 false q k 1074 ≡ units binary64 false q k
-units-is q k h l = same-value (odd 53 false q k 1074) (units binary64 false q k) false (q * 2 ^ k) (odd-held false q k h l) (units-held q k h l) (odd-sign 53 false q k 1074) (units-val binary64 false q k (units-lt q k h l))
+units-is q k h l =
+    same-value (odd 53 false q k 1074) (units binary64 false q k) false (q * 2 ^ k) (odd-held false q k h l) (units-held q k h l)
+    (odd-sign 53 false q k 1074) (units-val binary64 false q k (units-lt q k h l))
 
 -- ---- the digits d at the place k are shifted so that the power of two that is left is even
 abbrev pub leads : ℕ → ℕ → ℕ
@@ -97,7 +101,8 @@ module _ (d k : ℕ) (dp : 0 < d) (small : d < 2 ^ 53) (under : k < 2046) where
       let h = field - 1 in
       let e : k + 1074 ≡ shift d k + (54 + (h + h)) = let z = zeros-in d dp small in omega arith in
       mul-assoc d (2 ^ k) (2 ^ 1074)
-      ∙ ap (λ (z : ℕ). d * z) (sym (pow-add 2 k 1074) ∙ ap (λ (z : ℕ). 2 ^ z) e ∙ pow-add 2 (shift d k) (54 + (h + h)) ∙ ap (λ (z : ℕ). 2 ^ shift d k * z) (pow-add 2 54 (h + h) ∙ ap (λ (z : ℕ). 2 ^ 54 * z) (pow-add 2 h h)))
+      ∙ ap (λ (z : ℕ). d * z) (sym (pow-add 2 k 1074) ∙ ap (λ (z : ℕ). 2 ^ z) e ∙ pow-add 2 (shift d k) (54 + (h + h))
+      ∙ ap (λ (z : ℕ). 2 ^ shift d k * z) (pow-add 2 54 (h + h) ∙ ap (λ (z : ℕ). 2 ^ 54 * z) (pow-add 2 h h)))
       ∙ sym (mul-assoc d (2 ^ shift d k) (2 ^ 54 * (2 ^ h * 2 ^ h)))
       ∙ ap (λ (z : ℕ). z * (2 ^ 54 * (2 ^ h * 2 ^ h))) (sym exact)
       ∙ sym (mul-assoc (lifted d k) (2 ^ 54) (2 ^ h * 2 ^ h))

@@ -2,7 +2,9 @@
 use mathlib.Core.Path.{_≡_, refl, sym, ap, _∙_, subst}
 use Prim.Native.Nat.{ℕ, zero, suc, _+_, _-_, _*_, _/_, _%_, _^_, _≤_, _<_, compare}
 use mathlib.Core.Logic.{inl, inr}
-use native.Mathlib.Nat.{le-trans, le-of-eq, le-of-suc-le-suc, lt-of-lt-of-le, lt-of-le-of-lt, lt-of-not-le, not-le-of-lt, eq-zero-or-pos, zero-mul, zero-div, mul-one, mul-assoc, mul-right-comm, suc-mul, mul-le-mul-right, mul-lt-mul-of-pos-right, mul-div-cancel, div-one, div-mul-le-self, div-lt-iff-lt-mul, le-add-left}
+use native.Mathlib.Nat.{le-trans, le-of-eq, le-of-suc-le-suc, lt-of-lt-of-le, lt-of-le-of-lt, lt-of-not-le, not-le-of-lt, eq-zero-or-pos, zero-mul}
+use native.Mathlib.Nat.{zero-div, mul-one, mul-assoc, mul-right-comm, suc-mul, mul-le-mul-right, mul-lt-mul-of-pos-right, mul-div-cancel, div-one}
+use native.Mathlib.Nat.{div-mul-le-self, div-lt-iff-lt-mul, le-add-left}
 use native.Mathlib.Omega.{arith}
 use mathlib.Core.Bool.{Bool, false, _&&_}
 use lib.Dec.{T, leb, ltb, eqb, leb→le, ltb→lt, lit<}
@@ -23,8 +25,11 @@ parts m e t =
     let a : Bool = eqb (suc m % 2) 1 in
     let b : Bool = ltb (suc m) (2 ^ 53) in
     let c : Bool = leb (down e) (2 ^ 1074) in
-    let d : Bool = ltb (suc m * up e) (2 ^ 1024 * down e) in
-    (ltb→lt (suc m) (2 ^ 53) (and-r a b (and-l (a && b) c (and-l (a && b && c) d t))), leb→le (down e) (2 ^ 1074) (and-r (a && b) c (and-l (a && b && c) d t)), ltb→lt (suc m * up e) (2 ^ 1024 * down e) (and-r (a && b && c) d t))
+    let d : Bool = ltb (suc m * up e) (2 ^ 1024 * down e) in (
+      ltb→lt (suc m) (2 ^ 53) (and-r a b (and-l (a && b) c (and-l (a && b && c) d t))),
+      leb→le (down e) (2 ^ 1074) (and-r (a && b) c (and-l (a && b && c) d t)),
+      ltb→lt (suc m * up e) (2 ^ 1024 * down e) (and-r (a && b && c) d t),
+    )
 
 in-place : (n : ℕ) (e : ℤ) → down e ≤ 2 ^ 1074 → (j : ℕ) × (inUnits n e ≡ n * 2 ^ j)
 in-place n (pos p) h = (p + 1074, div-one (n * 2 ^ p * 2 ^ 1074) ∙ mul-assoc n (2 ^ p) (2 ^ 1074) ∙ ap (λ (x : ℕ). n * x) (sym (pow-add 2 p 1074)))
@@ -41,7 +46,14 @@ in-place n (negsuc p) h =
     back p h = omega arith
 
 holds : (n : ℕ) (e : ℤ) → T (fits binary64 (fin false n e)) → Holds (inUnits n e)
-holds zero e t = record { digits = 0; place = 0; small = pow-pos 53; is = ap (λ (x : ℕ). x * 2 ^ 1074 / down e) (zero-mul (up e)) ∙ ap (λ (x : ℕ). x / down e) (zero-mul (2 ^ 1074)) ∙ zero-div (down e) }
+holds zero e t =
+    record {
+      digits = 0;
+      place = 0;
+      small = pow-pos 53;
+      is = ap (λ (x : ℕ). x * 2 ^ 1074 / down e) (zero-mul (up e))
+          ∙ ap (λ (x : ℕ). x / down e) (zero-mul (2 ^ 1074)) ∙ zero-div (down e);
+    }
 holds (suc n) e t = let p = parts n e t in let j = in-place (suc n) e (p .1) in record { digits = suc n; place = j .0; small = p .0; is = j .1 }
 
 -- ---- the result does not overflow
@@ -85,7 +97,8 @@ root-is m e = refl
 
 in-range : (m : ℕ) (e : ℤ) → suc m * up e < 2 ^ 1024 * down e → inUnits (suc m) e * 2 ^ 1074 < 2 ^ 1586 * 2 ^ 1586
 in-range m e h =
-    mul-lt-mul-of-pos-right (div-lt-iff-lt-mul (down-pos e) .1 (lt-of-lt-of-le (mul-lt-mul-of-pos-right h (pow-pos 1074)) (le-of-eq (mul-right-comm (2 ^ 1024) (down e) (2 ^ 1074))))) (pow-pos 1074)
+    mul-lt-mul-of-pos-right
+    (div-lt-iff-lt-mul (down-pos e) .1 (lt-of-lt-of-le (mul-lt-mul-of-pos-right h (pow-pos 1074)) (le-of-eq (mul-right-comm (2 ^ 1024) (down e) (2 ^ 1074))))) (pow-pos 1074)
 
 -- "the square root is proved against IEEE 754"
 pub nearest-root : (m : ℕ) (e : ℤ) → T (fits binary64 (fin false (suc m) e)) → NearestRoot (inUnits (suc m) e * 2 ^ 1074) (sqrt (fin false (suc m) e))
@@ -93,7 +106,8 @@ nearest-root m e t =
     let a = inUnits (suc m) e * 2 ^ 1074 in
     let s = in-range m e (parts m e t .2) in
     let h = holds (suc m) e t in
-    let i : a ≡ h .digits * 2 ^ (h .place + 1074) = ap (λ (n : ℕ). n * 2 ^ 1074) (h .is) ∙ mul-assoc (h .digits) (2 ^ h .place) (2 ^ 1074) ∙ ap (λ (n : ℕ). h .digits * n) (sym (pow-add 2 (h .place) 1074)) in
+    let i : a ≡ h .digits * 2 ^ (h .place + 1074) = ap (λ (n : ℕ). n * 2 ^ 1074) (h .is) ∙ mul-assoc (h .digits) (2 ^ h .place) (2 ^ 1074)
+    ∙ ap (λ (n : ℕ). h .digits * n) (sym (pow-add 2 (h .place) 1074)) in
     record {
       result = kept a * 2 ^ k a;
       value = subst (λ (r : Float). HasValue r false (kept a * 2 ^ k a) (2 ^ 1074)) (sym (root-is m e ∙ is-units a)) (units-val binary64 false (kept a) (k a) (result-lt a s));

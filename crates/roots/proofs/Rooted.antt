@@ -31,7 +31,8 @@ at-zero nan h = refl
 at-zero (inf s) h = absurd (true≢false (sym h))
 at-zero (fin s zero e) h = refl
 at-zero (fin s (suc m) e) h =
-    let z : suc m * up e * 1 ≡ 0 * 1 * down e = eqb→eq (suc m * up e * 1) (0 * 1 * down e) (and-l (eqb (suc m * up e * 1) (0 * 1 * down e)) (Bool·beq s false || eqb (suc m * up e * 1) 0) (subst T (sym h) tt)) in
+    let z : suc m * up e * 1 ≡ 0 * 1 * down e = eqb→eq (suc m * up e * 1) (0 * 1 * down e)
+    (and-l (eqb (suc m * up e * 1) (0 * 1 * down e)) (Bool·beq s false || eqb (suc m * up e * 1) 0) (subst T (sym h) tt)) in
     absurd (lt-irrefl 0 (subst (λ (y : ℕ). 0 < y) (z ∙ zero-units e .1) (mul-pos (mul-pos (zero-lt-suc m) (up-pos e)) (zero-lt-suc 0))))
 
 -- ---- below zero
@@ -100,7 +101,13 @@ own (inf s) q k p h = absurd p
 own (fin true m e) q k p h = absurd p
 own (fin false m e) q k p h =
     let x = fin false m e in
-    record { digits-pos = first-pos q (2 ^ k) (value-pos x (q * 2 ^ k) (2 ^ 1074) p (pow-pos 1074) (h .value)); small = h .placed .small; under = h .placed .under; is = of-units x (q * 2 ^ k) p (h .value) }
+    record {
+      digits-pos = first-pos q (2 ^ k)
+          (value-pos x (q * 2 ^ k) (2 ^ 1074) p (pow-pos 1074) (h .value));
+      small = h .placed .small;
+      under = h .placed .under;
+      is = of-units x (q * 2 ^ k) p (h .value);
+    }
 
 pub rooted : (x : Float) → T (fits binary64 x) → T (positive x) → Rooted x (digits (toBits binary64 x)) (place (toBits binary64 x))
 rooted x f p = own x (digits (toBits binary64 x)) (place (toBits binary64 x)) p (parts-value x f (positive-finite x p))

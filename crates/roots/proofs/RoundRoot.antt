@@ -1,7 +1,8 @@
 -- `roundRoot` at a number that is n * 4 ^ h, by the whole part of the root of n. Assumes nothing.
 use mathlib.Core.Path.{_≡_, refl, sym, ap, _∙_, subst}
 use Prim.Native.Nat.{ℕ, zero, suc, _+_, _-_, _*_, _/_, _%_, _^_, _≤_, _<_, compare, Ordering, Ordering·lt, Ordering·eq, Ordering·gt}
-use native.Mathlib.Nat.{le-trans, le-of-eq, le-of-lt, lt-of-lt-of-le, lt-of-not-le, not-le-of-lt, mul-comm, mul-assoc, mul-left-comm, add-mul, mul-add, add-assoc, add-comm, add-left-comm, div-lt-iff-lt-mul, le-div-iff-mul-le, div-div-eq-div-mul, mul-pos, pow-suc}
+use native.Mathlib.Nat.{le-trans, le-of-eq, le-of-lt, lt-of-lt-of-le, lt-of-not-le, not-le-of-lt, mul-comm, mul-assoc, mul-left-comm, add-mul}
+use native.Mathlib.Nat.{mul-add, add-assoc, add-comm, add-left-comm, div-lt-iff-lt-mul, le-div-iff-mul-le, div-div-eq-div-mul, mul-pos, pow-suc}
 use native.Mathlib.Omega.{arith}
 use mathlib.Core.Bool.{false}
 use lib.Pow.{pow-pos, pow-add, pow-mono}
@@ -18,7 +19,8 @@ size-gt n j h = lt-of-not-le (λ (g : size n ≤ j). not-le-of-lt (lt-of-lt-of-l
 size-is : (w q h : ℕ) → w / 2 ^ h ≡ q → 2 ^ 53 ≤ q → q < 2 ^ 54 → size w ≡ 54 + h
 size-is w q h e lo hi =
     let a : 53 + h < size w = size-gt w (53 + h) (le-trans (le-of-eq (pow-add 2 53 h)) (le-div-iff-mul-le (pow-pos h) .0 (subst (λ (z : ℕ). 2 ^ 53 ≤ z) (sym e) lo))) in
-    let b : size w ≤ 54 + h = size-le w (54 + h) (lt-of-lt-of-le (div-lt-iff-lt-mul (pow-pos h) .0 (subst (λ (z : ℕ). z < 2 ^ 54) (sym e) hi)) (le-of-eq (sym (pow-add 2 54 h)))) in
+    let b : size w ≤ 54 + h = size-le w (54 + h)
+    (lt-of-lt-of-le (div-lt-iff-lt-mul (pow-pos h) .0 (subst (λ (z : ℕ). z < 2 ^ 54) (sym e) hi)) (le-of-eq (sym (pow-add 2 54 h)))) in
     omega arith
 
 -- an odd number's square is odd, so it is no even number
@@ -83,10 +85,12 @@ rounded n q h i v lo hi =
     let k : size w - 53 ≡ suc h = ap (λ (z : ℕ). z - 53) (size-is w q h s lo hi) ∙ less h in
     let t : w / 2 ^ suc h ≡ q / 2 = ap (λ (z : ℕ). w / z) (pow-suc 2 h) ∙ sym (div-div-eq-div-mul w p 2) ∙ ap (λ (z : ℕ). z / 2) s in
     let u = 2 * (q / 2) + 1 in
-    let g : u * 2 ^ suc h * (u * 2 ^ suc h) ≡ u * u * (4 * (p * p)) = ap (λ (z : ℕ). u * z * (u * z)) (pow-suc 2 h) ∙ simp (mul-comm, mul-assoc, mul-left-comm) (omega arith) in
+    let g : u * 2 ^ suc h * (u * 2 ^ suc h) ≡ u * u * (4 * (p * p)) = ap (λ (z : ℕ). u * z * (u * z)) (pow-suc 2 h)
+    ∙ simp (mul-comm, mul-assoc, mul-left-comm) (omega arith) in
     let f : 4 * a ≡ n * (4 * (p * p)) = mul-left-comm 4 n (p * p) in
     let o = compare (4 * a) (u * 2 ^ suc h * (u * 2 ^ suc h)) in
-    let c : Cmp o (n * (4 * (p * p))) (u * u * (4 * (p * p))) = subst (λ (z : ℕ). Cmp o z (u * u * (4 * (p * p)))) f (subst (λ (z : ℕ). Cmp o (4 * a) z) g (cmp (4 * a) (u * 2 ^ suc h * (u * 2 ^ suc h)))) in
+    let c : Cmp o (n * (4 * (p * p))) (u * u * (4 * (p * p))) = subst (λ (z : ℕ). Cmp o z (u * u * (4 * (p * p)))) f
+    (subst (λ (z : ℕ). Cmp o (4 * a) z) g (cmp (4 * a) (u * 2 ^ suc h * (u * 2 ^ suc h)))) in
     let PP : 0 < 4 * (p * p) = mul-pos (pow-pos 2) (mul-pos (pow-pos h) (pow-pos h)) in
     round-root-is a
     ∙ ap (λ (z : ℕ). at a w z) k

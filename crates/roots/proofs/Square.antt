@@ -20,7 +20,13 @@ pub halves : (q : ℕ) → q < 2 ^ 55 → Halves q
 halves q h =
     let a : q / 2 ^ 27 ≤ 2 ^ 28 = omega arith in
     let b : q % 2 ^ 27 ≤ 2 ^ 28 = omega arith in
-    record { aa = mul-le-mul a a; ab = mul-le-mul a b; bb = mul-le-mul b b; is = ap (λ (n : ℕ). n * n) (sym (div-add-mod' q (2 ^ 27))) ∙ square-of-sum (q / 2 ^ 27) (q % 2 ^ 27) (2 ^ 27) }
+    record {
+      aa = mul-le-mul a a;
+      ab = mul-le-mul a b;
+      bb = mul-le-mul b b;
+      is = ap (λ (n : ℕ). n * n) (sym (div-add-mod' q (2 ^ 27)))
+          ∙ square-of-sum (q / 2 ^ 27) (q % 2 ^ 27) (2 ^ 27);
+    }
 
 -- with the upper words equal and nothing in the middle, the lowest digits decide
 pub last : (q m : ℕ) → Halves q → (x y z : ℕ) → x ≡ q / 2 ^ 27 * (q / 2 ^ 27) → y ≡ q / 2 ^ 27 * (q % 2 ^ 27) → z ≡ q % 2 ^ 27 * (q % 2 ^ 27)

@@ -1,7 +1,9 @@
 -- `wholeRoot n` is the one number whose square is at most n while the next one's is not. Assumes nothing.
 use mathlib.Core.Path.{_≡_, sym, subst}
 use Prim.Native.Nat.{ℕ, zero, suc, _+_, _-_, _*_, _/_, _^_, _≤_, _<_}
-use native.Mathlib.Nat.{le-refl, le-trans, le-of-eq, lt-of-lt-of-le, lt-of-le-of-lt, lt-of-not-le, not-le-of-lt, mul-comm, mul-left-comm, mul-mul-mul-comm, add-mul, mul-add, add-assoc, add-comm, add-left-comm, pow-succ', mul-le-mul, mul-lt-mul-of-pos-right, div-lt-iff-lt-mul, le-div-iff-mul-le, mul-le-mul-right, mul-pos}
+use native.Mathlib.Nat.{le-refl, le-trans, le-of-eq, lt-of-lt-of-le, lt-of-le-of-lt, lt-of-not-le, not-le-of-lt, mul-comm, mul-left-comm}
+use native.Mathlib.Nat.{mul-mul-mul-comm, add-mul, mul-add, add-assoc, add-comm, add-left-comm, pow-succ', mul-le-mul, mul-lt-mul-of-pos-right}
+use native.Mathlib.Nat.{div-lt-iff-lt-mul, le-div-iff-mul-le, mul-le-mul-right, mul-pos}
 use native.Mathlib.Omega.{arith}
 use mathlib.Core.Bool.{Bool, true, false, not, _&&_, cond}
 use lib.Dec.{T, leb, leb→le, nleb→lt}

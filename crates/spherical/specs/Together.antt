@@ -57,7 +57,8 @@ pub record Together : Type 0 where
   pub fraction-nan : (p1 p2 : NVector) → interpolated.numberOf (interpolatedPosition p1 p2 nan) ≡ 18
   pub fraction-minus-zero : (p1 p2 : NVector) → interpolatedPosition p1 p2 (fin true 0 (pos 0)) ≡ interpolation.Position p1
   -- "Radius 1.0, both vehicles at X with bearing and speed zero: closest approach 12, count 1"
-  pub at-rest : timeToCpa (sphere.new (fromMetres one)) (vehicle.new (nvectorNew UNIT-X) angle.ZERO speed.ZERO) (vehicle.new (nvectorNew UNIT-X) angle.ZERO speed.ZERO) ≡ ZeroDerivative 1
+  pub at-rest : timeToCpa (sphere.new (fromMetres one)) (vehicle.new (nvectorNew UNIT-X) angle.ZERO speed.ZERO)
+      (vehicle.new (nvectorNew UNIT-X) angle.ZERO speed.ZERO) ≡ ZeroDerivative 1
 
 pub table : Together
 table =

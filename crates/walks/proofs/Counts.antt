@@ -15,9 +15,11 @@ use Rattle.jord.specs.declared.positions.NVector.{NVector}
 use Rattle.duration.specs.Duration.{fromSeconds, fromHours}
 use Rattle.duration.specs.declared.Converted.{Converted}
 use Rattle.duration.specs.declared.Converted.the-variants as converted
-use Rattle.walks.specs.Walk.{mostSteps, settle, walk, cpaNew, cpaValue, cpaSlope, cpaStep, cpaStart, oneMilliHours, chaseNew, corrected, intMinStep, spdCorrection, intSpdStep, interceptStart}
+use Rattle.walks.specs.Walk.{mostSteps, settle, walk, cpaNew, cpaValue, cpaSlope, cpaStep, cpaStart, oneMilliHours, chaseNew, corrected}
+use Rattle.walks.specs.Walk.{intMinStep, spdCorrection, intSpdStep, interceptStart}
 use Rattle.walks.specs.Outcome.{numberOf, countOf, ofConverted, ofWalk}
-use Rattle.walks.specs.Times.{cpaSteps, cpaWalk, timeToCpa, perSecond, interceptSteps, interceptWalk, timeToIntercept, longestSteps, longestStart, longestWalk, maxTimeToIntercept}
+use Rattle.walks.specs.Times.{cpaSteps, cpaWalk, timeToCpa, perSecond, interceptSteps, interceptWalk, timeToIntercept, longestSteps}
+use Rattle.walks.specs.Times.{longestStart, longestWalk, maxTimeToIntercept}
 use Rattle.walks.specs.Counts.{Counted, after, timeAfter, goesOn, Ends, Told, FoundAt}
 use Rattle.walks.specs.declared.Cpa.{Cpa}
 use Rattle.walks.specs.declared.Chase.{Chase}
@@ -190,17 +192,20 @@ pub no-twelve-intercept : (radius : Length) (p : NVector) (v : Speed) (int : Veh
 unfolding timeToIntercept
 no-twelve-intercept radius p v int =
     let f = interceptSteps radius p v int in
-    no-twelve-of fromSeconds f interceptStart (interceptWalk radius p v int) (int-spd-twelve (chaseNew radius p int) (perSecond radius v)) (outcome-tells-steps f interceptStart)
+    no-twelve-of fromSeconds f interceptStart (interceptWalk radius p v int) (int-spd-twelve (chaseNew radius p int) (perSecond radius v))
+    (outcome-tells-steps f interceptStart)
 
 pub no-twelve-longest : (radius : Length) (p : NVector) (int : Vehicle) → numberOf (maxTimeToIntercept radius p int) ≡ 12 → ⊥
 unfolding maxTimeToIntercept
 no-twelve-longest radius p int =
     let f = longestSteps radius p int in
-    no-twelve-of fromSeconds f (longestStart radius p int) (longestWalk radius p int) (int-min-twelve (chaseNew radius p int)) (outcome-tells-steps f (longestStart radius p int))
+    no-twelve-of fromSeconds f (longestStart radius p int) (longestWalk radius p int) (int-min-twelve (chaseNew radius p int))
+    (outcome-tells-steps f (longestStart radius p int))
 
 -- ---- a found time is the time of the step that its count names
 
-found-of : (duration : Float → Converted) (f : Float → Step) (t : Float) (w : Walk) (ns count : ℕ) → Told f t w → ofWalk duration w ≡ Found ns count → FoundAt duration f t ns count
+found-of : (duration : Float → Converted) (f : Float → Step) (t : Float) (w : Walk) (ns count : ℕ) → Told f t w → ofWalk duration w ≡ Found ns count
+    → FoundAt duration f t ns count
 found-of duration f t (walked.Accepted u n) ns count r e = of-converted (duration u) refl e
   where
     of-converted : (s : Converted) → duration u ≡ s → ofConverted s n ≡ Found ns count → FoundAt duration f t ns count

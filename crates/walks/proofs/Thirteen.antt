@@ -15,7 +15,8 @@ use Rattle.vectors.specs.Literal as literal
 use Rattle.jord.specs.declared.speed.Speed.{Speed}
 use Rattle.jord.specs.declared.vehicle.Vehicle.{Vehicle}
 use Rattle.jord.specs.declared.positions.NVector.{NVector}
-use Rattle.walks.specs.Walk.{mostSteps, walk, cpaNew, cpaValue, cpaSlope, cpaStep, cpaStart, oneMilliHours, chaseNew, sep, interceptEpsilon, corrected, minCorrection, intMinStep, spdCorrection, intSpdStep, interceptStart}
+use Rattle.walks.specs.Walk.{mostSteps, walk, cpaNew, cpaValue, cpaSlope, cpaStep, cpaStart, oneMilliHours, chaseNew, sep, interceptEpsilon}
+use Rattle.walks.specs.Walk.{corrected, minCorrection, intMinStep, spdCorrection, intSpdStep, interceptStart}
 use Rattle.walks.specs.Outcome.{numberOf, ofConverted, ofWalk}
 use Rattle.walks.specs.Times.{cpaSteps, timeToCpa, perSecond, interceptSteps, timeToIntercept, longestSteps, longestStart, maxTimeToIntercept}
 use Rattle.walks.specs.Counts.{timeAfter, goesOn, Ends, Told, CpaMoves, Moves, SpdMoves, MinMoves}
@@ -104,8 +105,10 @@ spent duration f t walked.NotConverged r h = refl
 means : (duration : Float → Converted) (f : Float → Step) (t : Float) (Moving : Float → Type 0) → ((u : Float) → goesOn (f u) ≡ true ↔ Moving u)
     → numberOf (ofWalk duration (walk f mostSteps t)) ≡ 13 ↔ ((i : ℕ) → i < mostSteps → Moving (timeAfter f t i))
 means duration f t Moving m =
-    let w = walk f mostSteps t in
-    (λ e i l. m (timeAfter f t i) .0 (went-on duration f t w (outcome-tells-steps f t) e i l), λ h. spent duration f t w (outcome-tells-steps f t) (λ i l. m (timeAfter f t i) .1 (h i l)))
+    let w = walk f mostSteps t in (
+      λ e i l. m (timeAfter f t i) .0 (went-on duration f t w (outcome-tells-steps f t) e i l),
+      λ h. spent duration f t w (outcome-tells-steps f t) (λ i l. m (timeAfter f t i) .1 (h i l)),
+    )
 
 pub thirteen-cpa : (radius : Length) (own int : Vehicle)
     → numberOf (timeToCpa radius own int) ≡ 13

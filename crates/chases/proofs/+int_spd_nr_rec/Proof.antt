@@ -53,4 +53,5 @@ module _ (n : ℕ) where
 pub +int-spd-nr-rec-spec : {M : Type 1} → statement M
 +int-spd-nr-rec-spec =
     close left
-    λ n. lts.spec (calls n) (given n) own.Post (not-converged n) (λ c κs. tt) (λ c. search needs) (λ c. search needs) (λ c. search needs) (λ c. search needs) (λ c. search needs) (λ c. search needs) (fewer-left n) (zero-derivative n) (accepted n) (next n)
+    λ n. lts.spec (calls n) (given n) own.Post (not-converged n) (λ c κs. tt) (λ c. search needs) (λ c. search needs) (λ c. search needs)
+    (λ c. search needs) (λ c. search needs) (λ c. search needs) (fewer-left n) (zero-derivative n) (accepted n) (next n)

@@ -14,9 +14,6 @@ Inv-loop k x₀ i₀ x i = (i ≤ mostSteps) × (walk (cpaStep k) (mostSteps - i
 abbrev μ-loop : tie.MeasureT-loop
 μ-loop k x₀ i₀ x i = mostSteps - i
 
-loop-holds : tie.Need-loop-holds Inv-loop μ-loop
-loop-holds c = search needs
-
 zero-derivative : tie.Need-returns Inv-loop μ-loop
 zero-derivative c =
     let k = c .before .before in
@@ -38,19 +35,5 @@ not-converged c = ended _ _ _ (omega arith) ∙ c .before .loop .inv .1
 pub newton-raphson-spec : {M : Type 1} → statement M
 newton-raphson-spec =
     tie.close
-    (tie.spec
-    Inv-loop
-    μ-loop
-    loop-holds
-    (λ c κs. tt)
-    (λ c. search needs)
-    (λ c. search needs)
-    zero-derivative
-    (λ c. search needs)
-    (λ c. search needs)
-    accepted
-    (λ c. search needs)
-    (λ c. search needs)
-    (λ c. search needs)
-    loop-again
-    not-converged)
+    (tie.spec Inv-loop μ-loop (λ c. search needs) (λ c κs. tt) (λ c. search needs) (λ c. search needs) zero-derivative (λ c. search needs)
+    (λ c. search needs) accepted (λ c. search needs) (λ c. search needs) (λ c. search needs) loop-again not-converged)

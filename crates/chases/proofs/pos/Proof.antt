@@ -5,7 +5,9 @@ use Rattle.chases.proofs.pos.Tie as tie
 
 returns : tie.Need-returns
 unfolding pos
-returns c = rw (c .add .ensures, c .before .mul2 .ensures, c .before .before .sin .ensures, c .before .before .before .mul .ensures, c .before .before .before .before .cos .ensures)
+returns c =
+    let at-cos = c .before .before .before .before in
+    rw (c .add .ensures, c .before .mul2 .ensures, c .before .before .sin .ensures, c .before .before .before .mul .ensures, at-cos .cos .ensures)
 
 pub pos-spec : {M : Type 1} → statement M
 pos-spec = tie.close (tie.spec (λ c κs. tt) (λ c κs. tt) (λ c κs. tt) (λ c κs. tt) (λ c κs. tt) returns)

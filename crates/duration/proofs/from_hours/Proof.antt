@@ -17,27 +17,23 @@ returns-2 : tie.Need-returns-2
 unfolding fromHours ofBits ofInt
 returns-2 c = let h = c .before .before .args .h in second-no (zeroOrMore h) (productBelow h) (productNanoseconds h) (c .before .if1 .left) (c .if2 .taken)
 
-to-bits-requires : tie.Need-to-bits-requires
-to-bits-requires c κs = search needs
-
-unpack-requires : tie.Need-unpack-requires
-unpack-requires c κs = search needs
-
 half-away-requires : tie.Need-half-away-requires
 unfolding ofBits ofInt
 half-away-requires c κs =
     let s = c .before .before .before .before in
-    let d = product-digits (s .args .h) (c .before .to-bits .result) (c .unpack .result) (c .before .before .before .if1 .left) (c .before .before .if2 .left) (c .before .to-bits .ensures) (c .unpack .ensures) in
+    let d = product-digits (s .args .h) (c .before .to-bits .result) (c .unpack .result) (c .before .before .before .if1 .left)
+    (c .before .before .if2 .left) (c .before .to-bits .ensures) (c .unpack .ensures) in
     let l = d .low in
     (d .parts .placed .small, omega arith)
 
 returns-3 : tie.Need-returns-3
 unfolding fromHours ofBits ofInt
 returns-3 c =
+    let at-if1 = c .before .before .before .before in
     let s = c .before .before .before .before .before in
     let h = s .args .h in
     let p = c .before .unpack .result in
-    let x = c .before .before .before .before .if1 .left in
+    let x = at-if1 .if1 .left in
     let y = c .before .before .before .if2 .left in
     let d = product-digits h (c .before .before .to-bits .result) p x y (c .before .before .to-bits .ensures) (c .before .unpack .ensures) in
     both (zeroOrMore h) (productBelow h) (c .half-away .result) (productNanoseconds h) x y (c .half-away .ensures ∙ whole-same (product h) (p .digits) (p .place) (d .parts))
@@ -45,4 +41,4 @@ returns-3 c =
 pub from-hours-spec : {M : Type 1} → statement M
 from-hours-spec =
     tie.close
-    (tie.spec returns returns-2 to-bits-requires unpack-requires half-away-requires returns-3)
+    (tie.spec returns returns-2 (λ c κs. search needs) (λ c κs. search needs) half-away-requires returns-3)

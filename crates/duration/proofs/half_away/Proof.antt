@@ -9,26 +9,11 @@ use Rattle.duration.proofs.Places.{one-shifted, from-units, below-units
 use Rattle.duration.proofs.half_away.Statement.{statement}
 use Rattle.duration.proofs.half_away.Tie as tie
 
-shl-result : tie.Need-shl-result
-shl-result c = search needs
-
 returns : tie.Need-returns
 returns c = let s = c .before in shl-exact 53 (s .args .place - 1074) 64 (s .pre .0) (omega arith) ∙ sym (from-units (s .args .digits) (s .args .place) (c .if1 .taken))
 
-sub-if2 : tie.Need-sub-if2
-sub-if2 c = search needs
-
 returns-2 : tie.Need-returns-2
 returns-2 c = let s = c .before .before in sym (under-half (s .args .digits) (s .args .place) (s .pre .0) (c .if2 .taken))
-
-sub-result : tie.Need-sub-result
-sub-result c = search needs
-
-sub-result-2 : tie.Need-sub-result-2
-sub-result-2 c = search needs
-
-shl-result-2 : tie.Need-shl-result-2
-shl-result-2 c = search needs
 
 div-result : tie.Need-div-result
 div-result c = let p = c .before .before .args .place in subst (λ (n : ℕ). 0 < n) (sym (one-shifted (1073 - p) (omega arith))) (pow-pos (1073 - p))
@@ -45,14 +30,5 @@ returns-3 c =
 pub half-away-spec : {M : Type 1} → statement M
 half-away-spec =
     tie.close
-    (tie.spec
-    shl-result
-    returns
-    sub-if2
-    returns-2
-    sub-result
-    sub-result-2
-    shl-result-2
-    div-result
-    add-result
-    returns-3)
+    (tie.spec (λ c. search needs) returns (λ c. search needs) returns-2 (λ c. search needs) (λ c. search needs) (λ c. search needs) div-result
+    add-result returns-3)

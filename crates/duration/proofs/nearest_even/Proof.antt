@@ -13,35 +13,11 @@ use Rattle.duration.proofs.Places.{one-shifted, high, under, none, at-t
 use Rattle.duration.proofs.nearest_even.Statement.{statement}
 use Rattle.duration.proofs.nearest_even.Tie as tie
 
-sub-k : tie.Need-sub-k
-sub-k c = search needs
-
-sub-k-2 : tie.Need-sub-k-2
-sub-k-2 c = search needs
-
 returns : tie.Need-returns
 returns c = let s = c .before in sym (none (s .args .digits) (s .args .place) (s .pre .0) (s .pre .1) (c .if1 .taken))
 
-mul-low : tie.Need-mul-low
-mul-low c = search needs
-
-mul-high : tie.Need-mul-high
-mul-high c = search needs
-
-add-high : tie.Need-add-high
-add-high c = search needs
-
-settle-requires : tie.Need-settle-requires
-settle-requires c κs = search needs
-
 returns-2 : tie.Need-returns-2
 returns-2 c = let s = c .before .before .before in c .settle .ensures ∙ sym (at-ten (s .args .digits) (s .args .place) (s .pre .1) (c .before .if2 .taken))
-
-sub-half : tie.Need-sub-half
-sub-half c = search needs
-
-shl-half : tie.Need-shl-half
-shl-half c = search needs
 
 -- the half's weight in `high`, as the code shifts it
 abbrev half : ℕ → ℕ
@@ -86,25 +62,11 @@ returns-4 c =
     let d = s .args .digits in
     let z : high d % half (s .args .place) ≡ 0 → ⊥ = c .before .if3 .left in
     c .settle3 .ensures
-    ∙ by-half d (s .args .place) true (s .pre .1) (c .before .before .if2 .left) (c .before .before .before .if1 .left) (sym (ap not (ne-eqb (high d % half (s .args .place) * 1024 + under d) 0 (λ e. z (omega arith)))))
+    ∙ by-half d (s .args .place) true (s .pre .1) (c .before .before .if2 .left) (c .before .before .before .if1 .left)
+    (sym (ap not (ne-eqb (high d % half (s .args .place) * 1024 + under d) 0 (λ e. z (omega arith)))))
 
 pub nearest-even-spec : {M : Type 1} → statement M
 nearest-even-spec =
     tie.close
-    (tie.spec
-    sub-k
-    sub-k-2
-    returns
-    mul-low
-    mul-high
-    add-high
-    settle-requires
-    returns-2
-    sub-half
-    shl-half
-    div-s
-    rem-if3
-    settle-requires-2
-    returns-3
-    settle-requires-3
-    returns-4)
+    (tie.spec (λ c. search needs) (λ c. search needs) returns (λ c. search needs) (λ c. search needs) (λ c. search needs) (λ c κs. search needs)
+    returns-2 (λ c. search needs) (λ c. search needs) div-s rem-if3 settle-requires-2 returns-3 settle-requires-3 returns-4)

@@ -9,19 +9,13 @@ returns : tie.Need-returns
 unfolding settled
 returns c = simp (eq-eqb _ _ (c .if1 .taken))
 
-add-result : tie.Need-add-result
-add-result c = search needs
-
 returns-2 : tie.Need-returns-2
 unfolding settled
 returns-2 c = simp (ne-eqb _ _ (c .before .if1 .left), c .if2 .taken)
-
-add-result-2 : tie.Need-add-result-2
-add-result-2 c = search needs
 
 returns-3 : tie.Need-returns-3
 unfolding settled
 returns-3 c = simp (ne-eqb _ _ (c .before .if1 .left), c .if2 .left)
 
 pub settle-spec : {M : Type 1} → statement M
-settle-spec = tie.close (tie.spec returns add-result returns-2 add-result-2 returns-3)
+settle-spec = tie.close (tie.spec returns (λ c. search needs) returns-2 (λ c. search needs) returns-3)

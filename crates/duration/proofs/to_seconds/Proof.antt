@@ -20,8 +20,5 @@ int-to-float-result-3 : tie.Need-int-to-float-result-3
 unfolding inFloat
 int-to-float-result-3 c = tt
 
-returns : tie.Need-returns
-returns c = search needs
-
 pub to-seconds-spec : {M : Type 1} → statement M
-to-seconds-spec = tie.close (tie.spec int-to-float-result int-to-float-result-2 int-to-float-result-3 returns)
+to-seconds-spec = tie.close (tie.spec int-to-float-result int-to-float-result-2 int-to-float-result-3 (λ c. search needs))

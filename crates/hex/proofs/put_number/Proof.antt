@@ -55,8 +55,9 @@ loop-less c = omega arith
 
 loop-again : tie.Need-loop-again Inv-loop μ-loop
 loop-again c =
+    let entry = c .before .before .before .before .before .before in
     let l = c .before .before .loop in
-    let a = c .before .before .before .before .before .before .args in
+    let a = entry .args in
     (omega arith, simp length-set (l .inv .1), digit-stored (l .out) (a .at) (l .i) (l .v) (omega arith) (omega arith) (c .byte-of .ensures) ∙ l .inv .2)
 
 add-result : tie.Need-add-result Inv-loop μ-loop
@@ -68,8 +69,9 @@ same-length c = c .before .loop .inv .1
 returns-3 : tie.Need-returns-3 Inv-loop μ-loop
 unfolding digits
 returns-3 c =
+    let entry = c .before .before .before .before .before in
     let l = c .before .loop in
-    let a = c .before .before .before .before .before .args in
+    let a = entry .args in
     let z : l .i ≡ 0 = omega arith in
     let n = length-digits (a .n) (a .value) in
     put-fits (omega arith) (sym (over-nil (l .out) (a .at)) ∙ (rw z at (l .inv .2))) (omega arith)
@@ -77,19 +79,5 @@ returns-3 c =
 pub put-number-spec : {M : Type 1} → statement M
 put-number-spec =
     tie.close
-    (tie.spec
-    Inv-loop
-    μ-loop
-    returns
-    sub-if2
-    returns-2
-    loop-holds
-    sub-i
-    byte-of-requires
-    add-out
-    slice-write-out
-    loop-less
-    loop-again
-    add-result
-    same-length
-    returns-3)
+    (tie.spec Inv-loop μ-loop returns sub-if2 returns-2 loop-holds sub-i byte-of-requires add-out slice-write-out loop-less loop-again add-result
+    same-length returns-3)

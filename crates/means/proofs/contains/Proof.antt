@@ -46,14 +46,4 @@ none c =
 pub contains-spec : {M : Type 1} → statement M
 contains-spec =
     tie.close
-    (tie.spec
-    Inv-loop
-    μ-loop
-    (λ c. search needs)
-    (λ c κs. search needs)
-    (λ c κs. tt)
-    found
-    (λ c. search needs)
-    (λ c. search needs)
-    loop-again
-    none)
+    (tie.spec Inv-loop μ-loop (λ c. search needs) (λ c κs. search needs) (λ c κs. tt) found (λ c. search needs) (λ c. search needs) loop-again none)

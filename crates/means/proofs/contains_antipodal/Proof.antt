@@ -31,14 +31,16 @@ found : tie.Need-returns Inv-loop μ-loop
 found c =
     let k = c .before .before .before .before .before in
     let cs = k .before .before .args .cs .now in
-    let e = asked cs _ (nthPosition cs (k .loop .i)) _ _ (c .before .before .before .nth-position .ensures) (c .before .before .antipode .ensures) (c .before .contains .ensures) in
+    let e = asked cs _ (nthPosition cs (k .loop .i)) _ _ (c .before .before .before .nth-position .ensures) (c .before .before .antipode .ensures)
+    (c .before .contains .ensures) in
     sym (k .loop .inv .2 ∙ any-found (opposed cs) cs (k .loop .i) (omega arith) (e ∙ c .if1 .taken))
 
 loop-again : tie.Need-loop-again Inv-loop μ-loop
 loop-again c =
     let k = c .before .before .before .before .before in
     let cs = k .before .before .args .cs .now in
-    let e = asked cs _ (nthPosition cs (k .loop .i)) _ _ (c .before .before .before .nth-position .ensures) (c .before .before .antipode .ensures) (c .before .contains .ensures) in
+    let e = asked cs _ (nthPosition cs (k .loop .i)) _ _ (c .before .before .before .nth-position .ensures) (c .before .before .antipode .ensures)
+    (c .before .contains .ensures) in
     (search needs, search needs, k .loop .inv .2 ∙ any-passed (opposed cs) cs (k .loop .i) (omega arith) (e ∙ c .if1 .left))
 
 none : tie.Need-returns-2 Inv-loop μ-loop
@@ -50,15 +52,5 @@ none c =
 pub contains-antipodal-spec : {M : Type 1} → statement M
 contains-antipodal-spec =
     tie.close
-    (tie.spec
-    Inv-loop
-    μ-loop
-    (λ c. search needs)
-    (λ c κs. search needs)
-    (λ c κs. tt)
-    (λ c κs. tt)
-    found
-    (λ c. search needs)
-    (λ c. search needs)
-    loop-again
-    none)
+    (tie.spec Inv-loop μ-loop (λ c. search needs) (λ c κs. search needs) (λ c κs. tt) (λ c κs. tt) found (λ c. search needs) (λ c. search needs)
+    loop-again none)

@@ -11,7 +11,9 @@ empty : tie.Need-returns
 empty c = (sym (mean-empty (c .before .before .args .cs .now) (omega arith)), refl)
 
 antipodal : tie.Need-returns-2
-antipodal c = (sym (mean-antipodal (c .before .before .before .before .args .cs .now) (sym (c .before .contains-antipodal .ensures) ∙ c .if2 .taken)), refl)
+antipodal c =
+    let entry = c .before .before .before .before in
+    (sym (mean-antipodal (entry .args .cs .now) (sym (c .before .contains-antipodal .ensures) ∙ c .if2 .taken)), refl)
 
 only-position : tie.Need-returns-3
 only-position c =

@@ -20,8 +20,12 @@ loop-again : tie.Need-loop-again Inv-loop μ-loop
 loop-again c =
     let k = c .before .before .before in
     let cs = k .before .before .args .cs .now in
-    let e = c .plus .ensures ∙ ap (plus (k .loop .s)) (c .before .nth-position .ensures) in
-    (search needs, search needs, k .loop .inv .2 ∙ fold-on plus (k .loop .s) cs (k .loop .i) (omega arith) ∙ ap (λ (s : Vec3). fold plus s (positions (drop (3 * (k .loop .i + 1)) cs))) (sym e))
+    let e = c .plus .ensures ∙ ap (plus (k .loop .s)) (c .before .nth-position .ensures) in (
+      search needs,
+      search needs,
+      k .loop .inv .2 ∙ fold-on plus (k .loop .s) cs (k .loop .i) (omega arith)
+          ∙ ap (λ (s : Vec3). fold plus s (positions (drop (3 * (k .loop .i + 1)) cs))) (sym e),
+    )
 
 returns : tie.Need-returns Inv-loop μ-loop
 returns c =
@@ -31,13 +35,4 @@ returns c =
 pub sum-spec : {M : Type 1} → statement M
 sum-spec =
     tie.close
-    (tie.spec
-    Inv-loop
-    μ-loop
-    (λ c. search needs)
-    (λ c κs. search needs)
-    (λ c κs. tt)
-    (λ c. search needs)
-    (λ c. search needs)
-    loop-again
-    returns)
+    (tie.spec Inv-loop μ-loop (λ c. search needs) (λ c κs. search needs) (λ c κs. tt) (λ c. search needs) (λ c. search needs) loop-again returns)

@@ -18,8 +18,17 @@ antipodal c = rw (pairs (c .before) ∙ c .if1 .taken)
 mean : tie.Need-returns-2
 unfolding triangleMeanPosition
 mean c =
+    let at-plus = c .before .before .before .before in
     let k = c .before .before .before .before .before in
-    rw (pairs (k .before) ∙ k .if1 .left, c .new .ensures, c .before .new-unit .ensures, c .before .before .plus3 .ensures, c .before .before .before .plus2 .ensures, c .before .before .before .before .plus .ensures)
+    rw (
+      pairs (k .before)
+          ∙ k .if1 .left,
+      c .new .ensures,
+      c .before .new-unit .ensures,
+      c .before .before .plus3 .ensures,
+      c .before .before .before .plus2 .ensures,
+      at-plus .plus .ensures,
+    )
 
 pub triangle-mean-position-spec : {M : Type 1} → statement M
 triangle-mean-position-spec = tie.close (tie.spec (λ c κs. tt) (λ c κs. tt) (λ c κs. tt) antipodal (λ c κs. tt) (λ c κs. tt) (λ c κs. tt) (λ c κs. tt) (λ c κs. tt) mean)

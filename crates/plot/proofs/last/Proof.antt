@@ -6,15 +6,6 @@ use borrow.Author.Needs.{needs}
 use Rattle.plot.proofs.last.Statement.{statement}
 use Rattle.plot.proofs.last.Tie as tie
 
-buffer-requires : tie.Need-buffer-requires
-buffer-requires c κs = search needs
-
-slice-aggregate-finish : tie.Need-slice-aggregate-finish
-slice-aggregate-finish c = search needs
-
-finish-requires : tie.Need-finish-requires
-finish-requires c κs = search needs
-
 array-share-prefix-page : tie.Need-array-share-prefix-page
 array-share-prefix-page c =
     let w = c .before .finish .ensures .finished (omega arith) .wrote in
@@ -25,24 +16,8 @@ slice-aggregate-write-all c =
     let w = c .before .before .finish .ensures .finished (omega arith) .wrote in
     sym (length-take-le _ _ (omega (arith, w .within, w .length-is)))
 
-write-all-requires : tie.Need-write-all-requires
-write-all-requires c κs = search needs
-
-returns : tie.Need-returns
-returns c = search needs
-
-returns-2 : tie.Need-returns-2
-returns-2 c = search needs
-
 pub last-spec : {M : Type 1} → statement M
 last-spec =
     tie.close
-    (tie.spec
-    buffer-requires
-    slice-aggregate-finish
-    finish-requires
-    array-share-prefix-page
-    slice-aggregate-write-all
-    write-all-requires
-    returns
-    returns-2)
+    (tie.spec (λ c κs. search needs) (λ c. search needs) (λ c κs. search needs) array-share-prefix-page slice-aggregate-write-all
+    (λ c κs. search needs) (λ c. search needs) (λ c. search needs))

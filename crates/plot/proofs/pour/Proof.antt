@@ -31,51 +31,59 @@ part-feed-start c = omega arith
 part-feed-end : tie.Need-part-feed-end Inv-loop μ-loop
 part-feed-end c = omega arith
 
-feed-requires : tie.Need-feed-requires Inv-loop μ-loop
-feed-requires c κs = tt
-
 add-i : tie.Need-add-i Inv-loop μ-loop
 add-i c =
-    let e = part-length (c .before .before .before .before .before .before .before .before .before .before .before .args .xs .now) (c .before .before .before .before .before .before .before .before .loop .i) (omega arith) in
-    omega (arith, e, c .before .before .before .before .feed .ensures .0 .within)
+    let at-feed = c .before .before .before .before in
+    let turn = at-feed .before .before .before .before in
+    let entry = turn .before .before .before in
+    let e = part-length (entry .args .xs .now) (turn .loop .i) (omega arith) in
+    omega (arith, e, at-feed .feed .ensures .0 .within)
 
 slice-reshare-prefix-write-all : tie.Need-slice-reshare-prefix-write-all Inv-loop μ-loop
 slice-reshare-prefix-write-all c =
-    let w = c .before .before .before .before .feed .ensures .0 .wrote in
+    let at-feed = c .before .before .before .before in
+    let w = at-feed .feed .ensures .0 .wrote in
     omega (arith, w .within, w .length-is)
 
 slice-aggregate-write-all : tie.Need-slice-aggregate-write-all Inv-loop μ-loop
 slice-aggregate-write-all c =
-    let w = c .before .before .before .before .before .feed .ensures .0 .wrote in
+    let at-feed = c .before .before .before .before .before in
+    let w = at-feed .feed .ensures .0 .wrote in
     sym (length-take-le _ _ (omega (arith, w .within, w .length-is)))
 
-write-all-requires : tie.Need-write-all-requires Inv-loop μ-loop
-write-all-requires c κs = tt
-
 same-length : tie.Need-same-length Inv-loop μ-loop
-same-length c = c .before .before .before .before .before .before .before .feed .ensures .0 .wrote .length-is ∙ c .before .before .before .before .before .before .before .before .before .before .before .loop .inv .1
+same-length c =
+    let at-feed = c .before .before .before .before .before .before .before in
+    let turn = at-feed .before .before .before .before in
+    at-feed .feed .ensures .0 .wrote .length-is ∙ turn .loop .inv .1
 
 returns : tie.Need-returns Inv-loop μ-loop
 returns c = record { goes = inr refl; fed = λ e. absurd (unwritten e) }
 
 loop-less : tie.Need-loop-less Inv-loop μ-loop
 loop-less c =
-    let a = c .before .before .before .before .before .before .before .before .before .before .before .before .before .before .args in
-    let l = c .before .before .before .before .before .before .before .before .before .before .before .loop in
+    let at-feed = c .before .before .before .before .before .before .before in
+    let turn = at-feed .before .before .before .before in
+    let entry = turn .before .before .before in
+    let a = entry .args in
+    let l = turn .loop in
     let e = part-length (a .xs .now) (l .i) (omega arith) in
-    let f = c .before .before .before .before .before .before .before .feed .ensures .0 in
-    let u : 0 < c .before .before .before .before .before .before .before .feed .result .used = some-used f (omega (arith, e)) (omega (arith, l .inv .1)) in
+    let f = at-feed .feed .ensures .0 in
+    let u : 0 < at-feed .feed .result .used = some-used f (omega (arith, e)) (omega (arith, l .inv .1)) in
     omega (arith, e, f .within)
 
 loop-again : tie.Need-loop-again Inv-loop μ-loop
 loop-again c =
-    let l = c .before .before .before .before .before .before .before .before .before .before .before .loop in
-    let a = c .before .before .before .before .before .before .before .before .before .before .before .before .before .before .args in
+    let at-feed = c .before .before .before .before .before .before .before in
+    let turn = at-feed .before .before .before .before in
+    let entry = turn .before .before .before in
+    let l = turn .loop in
+    let a = entry .args in
     let e = part-length (a .xs .now) (l .i) (omega arith) in
-    let f = c .before .before .before .before .before .before .before .feed .ensures .0 in (
+    let f = at-feed .feed .ensures .0 in (
       omega (arith, e, f .within),
       f .wrote .length-is ∙ l .inv .1,
-      f .state-is ∙ poured (view (a .s)) _ (a .xs .now) (l .i) (c .before .before .before .before .before .before .before .feed .result .used) (l .inv .2) (omega (arith, e, f .within)),
+      f .state-is ∙ poured (view (a .s)) _ (a .xs .now) (l .i) (at-feed .feed .result .used) (l .inv .2) (omega (arith, e, f .within)),
     )
 
 same-length-2 : tie.Need-same-length-2 Inv-loop μ-loop
@@ -83,27 +91,12 @@ same-length-2 c = c .before .loop .inv .1
 
 returns-2 : tie.Need-returns-2 Inv-loop μ-loop
 returns-2 c =
+    let entry = c .before .before .before .before in
     let l = c .before .loop in
-    record { goes = inl refl; fed = λ e. l .inv .2 ∙ rw (take-all (l .i) (c .before .before .before .before .args .xs .now) (omega arith)) }
+    record { goes = inl refl; fed = λ e. l .inv .2 ∙ rw (take-all (l .i) (entry .args .xs .now) (omega arith)) }
 
 pub pour-spec : {M : Type 1} → statement M
 pour-spec =
     tie.close
-    (tie.spec
-    Inv-loop
-    μ-loop
-    loop-holds
-    sub-feed
-    part-feed-start
-    part-feed-end
-    feed-requires
-    add-i
-    slice-reshare-prefix-write-all
-    slice-aggregate-write-all
-    write-all-requires
-    same-length
-    returns
-    loop-less
-    loop-again
-    same-length-2
-    returns-2)
+    (tie.spec Inv-loop μ-loop loop-holds sub-feed part-feed-start part-feed-end (λ c κs. tt) add-i slice-reshare-prefix-write-all
+    slice-aggregate-write-all (λ c κs. tt) same-length returns loop-less loop-again same-length-2 returns-2)

@@ -13,12 +13,6 @@ Inv-loop stream₀ piece₀ page₀ turns₀ stream piece page turns = (length p
 abbrev μ-loop : tie.MeasureT-loop
 μ-loop stream₀ piece₀ page₀ turns₀ stream piece page turns = turns
 
-begin-requires : tie.Need-begin-requires Inv-loop μ-loop
-begin-requires c κs = tt
-
-large-buffer-requires : tie.Need-large-buffer-requires Inv-loop μ-loop
-large-buffer-requires c κs = tt
-
 loop-holds : tie.Need-loop-holds Inv-loop μ-loop
 loop-holds c = (length-replicate {A = ℕ} 262144 0, sym (c .large-buffer .ensures))
 
@@ -28,64 +22,34 @@ sub-turns c = omega arith
 slice-aggregate-read : tie.Need-slice-aggregate-read Inv-loop μ-loop
 slice-aggregate-read c = sym (c .before .before .loop .inv .0)
 
-read-requires : tie.Need-read-requires Inv-loop μ-loop
-read-requires c κs = tt
-
 slice-aggregate-answer : tie.Need-slice-aggregate-answer Inv-loop μ-loop
-slice-aggregate-answer c = sym (c .before .before .read .kept .1 .0 ∙ c .before .before .before .before .before .loop .inv .0)
+slice-aggregate-answer c =
+    let turn = c .before .before .before .before .before in
+    sym (c .before .before .read .kept .1 .0 ∙ turn .loop .inv .0)
 
 slice-aggregate-answer-2 : tie.Need-slice-aggregate-answer-2 Inv-loop μ-loop
-slice-aggregate-answer-2 c = sym (c .before .before .before .before .before .before .loop .inv .1)
+slice-aggregate-answer-2 c =
+    let turn = c .before .before .before .before .before .before in
+    sym (turn .loop .inv .1)
 
 answer-requires : tie.Need-answer-requires Inv-loop μ-loop
-answer-requires c κs = omega (arith, c .before .before .before .before .before .before .loop .inv .1)
-
-enum-told : tie.Need-enum-told Inv-loop μ-loop
-enum-told c = search needs
+answer-requires c κs =
+    let turn = c .before .before .before .before .before .before in
+    omega (arith, turn .loop .inv .1)
 
 loop-less : tie.Need-loop-less Inv-loop μ-loop
 loop-less c = omega arith
 
 loop-again : tie.Need-loop-again Inv-loop μ-loop
 loop-again c =
-    let l = c .before .before .before .before .before .before .before .before .before .before .before .loop .inv in
-    (c .before .before .before .before .before .before .before .before .read .kept .1 .0 ∙ l .0, c .before .before .before .before .answer .kept .1 .1 .1 .0 ∙ l .1)
-
-enum-told-2 : tie.Need-enum-told-2 Inv-loop μ-loop
-enum-told-2 c = search needs
-
-last-requires : tie.Need-last-requires Inv-loop μ-loop
-last-requires c κs = tt
-
-returns : tie.Need-returns Inv-loop μ-loop
-returns c = tt
-
-returns-2 : tie.Need-returns-2 Inv-loop μ-loop
-returns-2 c = tt
-
-returns-3 : tie.Need-returns-3 Inv-loop μ-loop
-returns-3 c = tt
+    let at-answer = c .before .before .before .before in
+    let at-read = at-answer .before .before .before .before in
+    let turn = at-read .before .before .before in
+    let l = turn .loop .inv in
+    (at-read .read .kept .1 .0 ∙ l .0, at-answer .answer .kept .1 .1 .1 .0 ∙ l .1)
 
 pub run-spec : {M : Type 1} → statement M
 run-spec =
     tie.close
-    (tie.spec
-    Inv-loop
-    μ-loop
-    begin-requires
-    large-buffer-requires
-    loop-holds
-    sub-turns
-    slice-aggregate-read
-    read-requires
-    slice-aggregate-answer
-    slice-aggregate-answer-2
-    answer-requires
-    enum-told
-    loop-less
-    loop-again
-    enum-told-2
-    last-requires
-    returns
-    returns-2
-    returns-3)
+    (tie.spec Inv-loop μ-loop (λ c κs. tt) (λ c κs. tt) loop-holds sub-turns slice-aggregate-read (λ c κs. tt) slice-aggregate-answer
+    slice-aggregate-answer-2 answer-requires (λ c. search needs) loop-less loop-again (λ c. search needs) (λ c κs. tt) (λ c. tt) (λ c. tt) (λ c. tt))

@@ -5,12 +5,9 @@ use Rattle.questions.proofs.Finiteness.{below-infinity}
 use Rattle.questions.proofs.finite.Statement.{statement}
 use Rattle.questions.proofs.finite.Tie as tie
 
-magnitude-requires : tie.Need-magnitude-requires
-magnitude-requires c κs = search needs
-
 returns : tie.Need-returns
 unfolding div ofBits
 returns c = rw (c .magnitude .ensures) (below-infinity (c .before .args .x))
 
 pub finite-spec : {M : Type 1} → statement M
-finite-spec = tie.close (tie.spec magnitude-requires returns)
+finite-spec = tie.close (tie.spec (λ c κs. search needs) returns)

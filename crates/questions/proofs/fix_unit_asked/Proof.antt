@@ -4,17 +4,8 @@ use borrow.Author.Needs.{needs}
 use Rattle.questions.proofs.fix_unit_asked.Statement.{statement}
 use Rattle.questions.proofs.fix_unit_asked.Tie as tie
 
-position-requires : tie.Need-position-requires
-position-requires c κs = search needs
-
-unit-requires : tie.Need-unit-requires
-unit-requires c κs = search needs
-
-unless-requires : tie.Need-unless-requires
-unless-requires c κs = search needs
-
 returns : tie.Need-returns
 returns c = c .unless .ensures ∙ rw (c .before .unit .ensures, c .before .before .position .ensures)
 
 pub fix-unit-asked-spec : {M : Type 1} → statement M
-fix-unit-asked-spec = tie.close (tie.spec position-requires unit-requires unless-requires returns)
+fix-unit-asked-spec = tie.close (tie.spec (λ c κs. search needs) (λ c κs. search needs) (λ c κs. search needs) returns)

@@ -38,19 +38,15 @@ sub-room : tie.Need-sub-room
 sub-room c = free c .0
 
 -- the pattern of a shift by j, and its value: j is the room, or the place where that is no more
-below : (c : tie.Else1) (j : ℕ) → j ≤ zeros (c .before .args .digits) - 11 → j ≤ c .before .args .place → (0 < c .before .args .place - j → j ≡ zeros (c .before .args .digits) - 11)
+below : (c : tie.Else1) (j : ℕ) → j ≤ zeros (c .before .args .digits) - 11 → j ≤ c .before .args .place
+    → (0 < c .before .args .place - j → j ≡ zeros (c .before .args .digits) - 11)
     → (c .before .args .place - j) * 2 ^ 52 + c .before .args .digits * 2 ^ j % 2 ^ 64 < 2047 * 2 ^ 52
 below c j = pattern-lt (c .before .args .digits) (positive _ (c .if1 .left)) (c .before .pre .0) (c .before .args .place) j (c .before .pre .1)
 
-same : (c : tie.Else1) (j : ℕ) → j ≤ zeros (c .before .args .digits) - 11 → j ≤ c .before .args .place → (0 < c .before .args .place - j → j ≡ zeros (c .before .args .digits) - 11)
+same : (c : tie.Else1) (j : ℕ) → j ≤ zeros (c .before .args .digits) - 11 → j ≤ c .before .args .place
+    → (0 < c .before .args .place - j → j ≡ zeros (c .before .args .digits) - 11)
     → ofBits binary64 ((c .before .args .place - j) * 2 ^ 52 + c .before .args .digits * 2 ^ j % 2 ^ 64) ≡ odd 53 false (c .before .args .digits) (c .before .args .place) 1074
 same c j = pattern-value (c .before .args .digits) (positive _ (c .if1 .left)) (c .before .pre .0) (c .before .args .place) j (c .before .pre .1)
-
-sub-result : tie.Need-sub-result
-sub-result c = search needs
-
-mul-result : tie.Need-mul-result
-mul-result c = search needs
 
 shl-result : tie.Need-shl-result
 shl-result c = omega (arith, free (c .before))
@@ -70,7 +66,8 @@ shl-result-2 c = omega (arith, free (c .before))
 float-from-bits-result-2 : tie.Need-float-from-bits-result-2
 float-from-bits-result-2 c =
     let k = c .before .before .args .place in
-    rw (sym (used-up k (c .before .before .args .digits * 2 ^ k % 2 ^ 64))) (no-nan _ (under _ (below (c .before) k (c .if2 .left) (le-refl _) (λ (z : 0 < k - k). omega arith))))
+    rw (sym (used-up k (c .before .before .args .digits * 2 ^ k % 2 ^ 64)))
+    (no-nan _ (under _ (below (c .before) k (c .if2 .left) (le-refl _) (λ (z : 0 < k - k). omega arith))))
 
 returns-3 : tie.Need-returns-3
 returns-3 c =
@@ -80,16 +77,5 @@ returns-3 c =
 pub of-parts-spec : {M : Type 1} → statement M
 of-parts-spec =
     tie.close
-    (tie.spec
-    returns
-    cast-room
-    sub-room
-    sub-result
-    mul-result
-    shl-result
-    add-result
-    float-from-bits-result
-    returns-2
-    shl-result-2
-    float-from-bits-result-2
-    returns-3)
+    (tie.spec returns cast-room sub-room (λ c. search needs) (λ c. search needs) shl-result add-result float-from-bits-result returns-2 shl-result-2
+    float-from-bits-result-2 returns-3)

@@ -7,7 +7,8 @@ use Rattle.patterns.specs.Bits.{unpacked}
 use Rattle.patterns.specs.declared.Unpacked.{Unpacked}
 use borrow.Author.Needs.{needs}
 use Rattle.patterns.proofs.Pattern.{is-nan, not-nan, zero-by-zero}
-use Rattle.remainders.proofs.Fmod.{Divides, rem-nan-left, rem-nan-right, rem-of-infinity, rem-by-zero, rem-of-smaller, rem-of-larger, below-infinity, rem-parts, with-sign}
+use Rattle.remainders.proofs.Fmod.{Divides, rem-nan-left, rem-nan-right, rem-of-infinity, rem-by-zero, rem-of-smaller, rem-of-larger}
+use Rattle.remainders.proofs.Fmod.{below-infinity, rem-parts, with-sign}
 use Rattle.remainders.proofs.rem.Statement.{statement}
 use Rattle.remainders.proofs.rem.Tie as tie
 
@@ -42,7 +43,8 @@ returns-4 c =
 returns-5 : tie.Need-returns-5
 returns-5 c =
     let s = c .before .before .before .before .before in
-    rem-of-smaller (s .args .x) (s .args .y) (held-x s) (held-y s) (not-nan (s .args .y) (c .before .before .before .if2 .left)) (below-infinity (s .args .x) (c .before .before .if3 .left)) (c .if5 .taken)
+    rem-of-smaller (s .args .x) (s .args .y) (held-x s) (held-y s) (not-nan (s .args .y) (c .before .before .before .if2 .left))
+    (below-infinity (s .args .x) (c .before .before .if3 .left)) (c .if5 .taken)
 
 -- what the tests leave
 divides : (c : tie.Else5) → Divides (c .before .before .before .before .before .args .x) (c .before .before .before .before .before .args .y)
@@ -53,25 +55,18 @@ divides c =
 abbrev start : tie.After-sign-bit → tie.Start
 start c = c .before .before .before .before .before .before .before .before .before
 
-unpack-requires : tie.Need-unpack-requires
-unpack-requires c κs = search needs
-
-unpack-requires-2 : tie.Need-unpack-requires-2
-unpack-requires-2 c κs = search needs
-
 rem-of-unpacked-requires : tie.Need-rem-of-unpacked-requires
 rem-of-unpacked-requires c κs =
     let d = divides (c .before .before) in
     rw (c .unpack2 .ensures, c .before .unpack .ensures) (d .dividend, d .under, d .divisor, d .small, d .order)
 
-sign-bit-requires : tie.Need-sign-bit-requires
-sign-bit-requires c κs = search needs
-
 -- the call's answer, from the parts that were handed over to the patterns' own
-of-magnitudes : (c : tie.After-sign-bit) → c .before .rem-of-unpacked .result ≡ rem-parts (unpacked (toBits binary64 (start c .args .x))) (unpacked (toBits binary64 (start c .args .y)))
+of-magnitudes : (c : tie.After-sign-bit)
+    → c .before .rem-of-unpacked .result ≡ rem-parts (unpacked (toBits binary64 (start c .args .x))) (unpacked (toBits binary64 (start c .args .y)))
 of-magnitudes c =
     let d = c .before .before in
-    c .before .rem-of-unpacked .ensures ∙ ap (λ (p : Unpacked). rem-parts p (d .unpack2 .result)) (d .before .unpack .ensures) ∙ ap (rem-parts (unpacked (toBits binary64 (start c .args .x)))) (d .unpack2 .ensures)
+    c .before .rem-of-unpacked .ensures ∙ ap (λ (p : Unpacked). rem-parts p (d .unpack2 .result)) (d .before .unpack .ensures)
+    ∙ ap (rem-parts (unpacked (toBits binary64 (start c .args .x)))) (d .unpack2 .ensures)
 
 signed : (b : Bool) (c : tie.After-sign-bit) → c .sign-bit .result ≡ b → with-sign b (c .before .rem-of-unpacked .result) ≡ rem binary64 (start c .args .x) (start c .args .y)
 signed b c e =
@@ -88,17 +83,5 @@ returns-7 c = signed false (c .before) (c .if6 .left)
 pub rem-spec : {M : Type 1} → statement M
 rem-spec =
     tie.close
-    (tie.spec
-    returns
-    returns-2
-    float-to-bits-p
-    float-to-bits-q
-    returns-3
-    returns-4
-    returns-5
-    unpack-requires
-    unpack-requires-2
-    rem-of-unpacked-requires
-    sign-bit-requires
-    returns-6
-    returns-7)
+    (tie.spec returns returns-2 float-to-bits-p float-to-bits-q returns-3 returns-4 returns-5 (λ c κs. search needs) (λ c κs. search needs)
+    rem-of-unpacked-requires (λ c κs. search needs) returns-6 returns-7)

@@ -32,22 +32,15 @@ returns-2 : tie.Need-returns-2
 returns-2 c = let s = c .before .before in let h = halves (s .args .q) (s .pre) in let f : s .args .m * 2 ^ 54 < s .args .q * s .args .q = omega arith in sym (lt-leb _ _ f)
 
 returns-3 : tie.Need-returns-3
-returns-3 c = let s = c .before .before .before in let h = halves (s .args .q) (s .pre) in let f : s .args .m * 2 ^ 54 < s .args .q * s .args .q = omega arith in sym (lt-leb _ _ f)
+returns-3 c =
+    let s = c .before .before .before in let h = halves (s .args .q) (s .pre) in let f : s .args .m * 2 ^ 54 < s .args .q * s .args .q = omega arith in sym (lt-leb _ _ f)
 
 returns-4 : tie.Need-returns-4
-returns-4 c = let s = c .before .before .before in last (s .args .q) (s .args .m) (halves (s .args .q) (s .pre)) _ _ _ refl refl refl (c .before .if2 .left) (c .before .before .if1 .left) (c .if3 .left)
+returns-4 c =
+    let s = c .before .before .before in last (s .args .q) (s .args .m) (halves (s .args .q) (s .pre)) _ _ _ refl refl refl (c .before .if2 .left)
+    (c .before .before .if1 .left) (c .if3 .left)
 
 pub at-most-spec : {M : Type 1} → statement M
 at-most-spec =
     tie.close
-    (tie.spec
-    mul-low
-    mul-mid
-    mul-mid-2
-    add-mid
-    mul-high
-    add-high
-    returns
-    returns-2
-    returns-3
-    returns-4)
+    (tie.spec mul-low mul-mid mul-mid-2 add-mid mul-high add-high returns returns-2 returns-3 returns-4)

@@ -11,24 +11,6 @@ both {x} {y} {a} {b} e t f = ap not f ∙ ap (λ (z : Bool). z && not b) (sym t 
 neither : {x a : Bool} (b : Bool) → x ≡ a → x ≡ false → x ≡ (a && b)
 neither b e f = f ∙ ap (λ (z : Bool). z && b) (sym f ∙ e)
 
-mul-at-most : tie.Need-mul-at-most
-mul-at-most c = search needs
-
-sub-at-most : tie.Need-sub-at-most
-sub-at-most c = search needs
-
-at-most-requires : tie.Need-at-most-requires
-at-most-requires c κs = search needs
-
-mul-at-most-2 : tie.Need-mul-at-most-2
-mul-at-most-2 c = search needs
-
-add-at-most : tie.Need-add-at-most
-add-at-most c = search needs
-
-at-most-requires-2 : tie.Need-at-most-requires-2
-at-most-requires-2 c κs = search needs
-
 returns : tie.Need-returns
 returns c = both (c .before .before .at-most .ensures) (c .before .if1 .taken) (c .at-most2 .ensures)
 
@@ -38,12 +20,5 @@ returns-2 c = neither _ (c .before .at-most .ensures) (c .if1 .left)
 pub is-half-root-spec : {M : Type 1} → statement M
 is-half-root-spec =
     tie.close
-    (tie.spec
-    mul-at-most
-    sub-at-most
-    at-most-requires
-    mul-at-most-2
-    add-at-most
-    at-most-requires-2
-    returns
+    (tie.spec (λ c. search needs) (λ c. search needs) (λ c κs. search needs) (λ c. search needs) (λ c. search needs) (λ c κs. search needs) returns
     returns-2)

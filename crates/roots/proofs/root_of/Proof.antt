@@ -16,17 +16,11 @@ free c = zeros-in (c .args .digits) (c .pre .0) (c .pre .1)
 cast-zeros : tie.Need-cast-zeros
 cast-zeros c = omega (arith, free c)
 
-add-top : tie.Need-add-top
-add-top c = search needs
-
 sub-top : tie.Need-sub-top
 sub-top c = omega (arith, free c)
 
 sub-m : tie.Need-sub-m
 sub-m c = omega (arith, free c)
-
-add-m : tie.Need-add-m
-add-m c = search needs
 
 add-m-2 : tie.Need-add-m-2
 add-m-2 c = omega (arith, free c)
@@ -34,18 +28,14 @@ add-m-2 c = omega (arith, free c)
 shl-m : tie.Need-shl-m
 shl-m c = shift-lt-64 (c .args .digits) (c .args .place) (c .pre .0) (c .pre .1) (c .pre .2)
 
-add-result : tie.Need-add-result
-add-result c = search needs
-
-mul-result : tie.Need-mul-result
-mul-result c = search needs
-
 half-root-requires : tie.Need-half-root-requires
 half-root-requires c κs = lifted-lt (c .args .digits) (c .args .place) (c .pre .0) (c .pre .1) (c .pre .2)
 
 -- the pattern, with the half root as the call gave it
 under : (c : tie.After-half-root) → (leads (c .before .args .digits) (c .before .args .place) + 969) / 2 * 2 ^ 52 + c .half-root .result < 2047 * 2 ^ 52
-under c = subst (λ (n : ℕ). (leads (c .before .args .digits) (c .before .args .place) + 969) / 2 * 2 ^ 52 + n < 2047 * 2 ^ 52) (sym (c .half-root .ensures)) (pattern-lt (c .before .args .digits) (c .before .args .place) (c .before .pre .0) (c .before .pre .1) (c .before .pre .2))
+under c =
+    subst (λ (n : ℕ). (leads (c .before .args .digits) (c .before .args .place) + 969) / 2 * 2 ^ 52 + n < 2047 * 2 ^ 52) (sym (c .half-root .ensures))
+    (pattern-lt (c .before .args .digits) (c .before .args .place) (c .before .pre .0) (c .before .pre .1) (c .before .pre .2))
 
 add-result-2 : tie.Need-add-result-2
 add-result-2 c = omega (arith, under c)
@@ -54,22 +44,12 @@ float-from-bits-result : tie.Need-float-from-bits-result
 float-from-bits-result c = let h = under c in no-nan _ (omega arith)
 
 returns : tie.Need-returns
-returns c = ap (λ (n : ℕ). ofBits binary64 ((leads (c .before .args .digits) (c .before .args .place) + 969) / 2 * 2 ^ 52 + n)) (c .half-root .ensures) ∙ pattern-value (c .before .args .digits) (c .before .args .place) (c .before .pre .0) (c .before .pre .1) (c .before .pre .2)
+returns c =
+    ap (λ (n : ℕ). ofBits binary64 ((leads (c .before .args .digits) (c .before .args .place) + 969) / 2 * 2 ^ 52 + n)) (c .half-root .ensures)
+    ∙ pattern-value (c .before .args .digits) (c .before .args .place) (c .before .pre .0) (c .before .pre .1) (c .before .pre .2)
 
 pub root-of-spec : {M : Type 1} → statement M
 root-of-spec =
     tie.close
-    (tie.spec
-    cast-zeros
-    add-top
-    sub-top
-    sub-m
-    add-m
-    add-m-2
-    shl-m
-    add-result
-    mul-result
-    half-root-requires
-    add-result-2
-    float-from-bits-result
-    returns)
+    (tie.spec cast-zeros (λ c. search needs) sub-top sub-m (λ c. search needs) add-m-2 shl-m (λ c. search needs) (λ c. search needs)
+    half-root-requires add-result-2 float-from-bits-result returns)

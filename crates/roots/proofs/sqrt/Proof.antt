@@ -31,29 +31,21 @@ returns-4 : tie.Need-returns-4
 returns-4 c = let s = c .before .before .before .before in sym (at-infinity (s .args .x) (held s) (c .if4 .taken))
 
 -- what the tests leave
-positive-root : (c : tie.Else4) → Rooted (c .before .before .before .before .args .x) (digits (toBits binary64 (c .before .before .before .before .args .x))) (place (toBits binary64 (c .before .before .before .before .args .x)))
+positive-root : (c : tie.Else4)
+    → Rooted (c .before .before .before .before .args .x) (digits (toBits binary64 (c .before .before .before .before .args .x)))
+    (place (toBits binary64 (c .before .before .before .before .args .x)))
 positive-root c =
     let s = c .before .before .before .before in
     rooted (s .args .x) (held s) (left-over (s .args .x) (c .before .before .before .if1 .left) (c .before .before .if2 .left) (c .before .if3 .left) (c .if4 .left))
-
-unpack-requires : tie.Need-unpack-requires
-unpack-requires c κs = search needs
 
 root-of-requires : tie.Need-root-of-requires
 root-of-requires c κs = let r = positive-root (c .before) in rw (c .unpack .ensures) (r .digits-pos, r .small, r .under)
 
 returns-5 : tie.Need-returns-5
-returns-5 c = c .root-of .ensures ∙ ap (λ (p : Unpacked). roundRoot (p .digits * 2 ^ p .place * 2 ^ 1074)) (c .before .unpack .ensures) ∙ sym (positive-root (c .before .before) .is)
+returns-5 c =
+    c .root-of .ensures ∙ ap (λ (p : Unpacked). roundRoot (p .digits * 2 ^ p .place * 2 ^ 1074)) (c .before .unpack .ensures) ∙ sym (positive-root (c .before .before) .is)
 
 pub sqrt-spec : {M : Type 1} → statement M
 sqrt-spec =
     tie.close
-    (tie.spec
-    returns
-    returns-2
-    returns-3
-    float-to-bits-bits
-    returns-4
-    unpack-requires
-    root-of-requires
-    returns-5)
+    (tie.spec returns returns-2 returns-3 float-to-bits-bits returns-4 (λ c κs. search needs) root-of-requires returns-5)

@@ -21,7 +21,8 @@ abbrev μ-loop : tie.MeasureT-loop
 returns : tie.Need-returns Inv-loop μ-loop
 returns c =
     let a = c .before .args in
-    whole (a .t1) (drop (a .p + 1) (a .t1) ++ drop (mostTargets - 1) (a .t1)) mostTargets (a .p) (search needs) (c .if1 .taken) ∙ ap (take mostTargets) (sym (append-assoc (take (a .p) (a .t1)) (drop (a .p + 1) (a .t1)) (drop (mostTargets - 1) (a .t1))))
+    whole (a .t1) (drop (a .p + 1) (a .t1) ++ drop (mostTargets - 1) (a .t1)) mostTargets (a .p) (search needs) (c .if1 .taken)
+    ∙ ap (take mostTargets) (sym (append-assoc (take (a .p) (a .t1)) (drop (a .p + 1) (a .t1)) (drop (mostTargets - 1) (a .t1))))
 
 loop-holds : tie.Need-loop-holds Inv-loop μ-loop
 loop-holds c =
@@ -29,35 +30,16 @@ loop-holds c =
     let l : length (a .t1) ≡ mostTargets = search needs in
     (search needs, search needs, search needs, removing (a .t1) (a .p) (omega arith))
 
-add-out : tie.Need-add-out Inv-loop μ-loop
-add-out c = search needs
-
-mul-out : tie.Need-mul-out Inv-loop μ-loop
-mul-out c = search needs
-
-array-copy-out-out : tie.Need-array-copy-out-out Inv-loop μ-loop
-array-copy-out-out c = search needs
-
-mul-out-2 : tie.Need-mul-out-2 Inv-loop μ-loop
-mul-out-2 c = search needs
-
-array-set-from-out : tie.Need-array-set-from-out Inv-loop μ-loop
-array-set-from-out c = search needs
-
-add-i : tie.Need-add-i Inv-loop μ-loop
-add-i c = search needs
-
-loop-less : tie.Need-loop-less Inv-loop μ-loop
-loop-less c = search needs
-
 loop-again : tie.Need-loop-again Inv-loop μ-loop
 loop-again c =
-    let a = c .before .before .before .before .args in
+    let entry = c .before .before .before .before in
+    let a = entry .args in
     let h : a .p < length (a .t1) = omega arith in (
       search needs,
       search needs,
       search needs,
-      laid _ (a .t1) _ _ absent _ (omega (arith, length-removing (a .t1) (a .p) h)) (omega arith) (c .before .before .loop .inv .3) (removed-at (a .t1) (a .p) h _ absent (c .before .before .loop .inv .0)),
+      laid _ (a .t1) _ _ absent _ (omega (arith, length-removing (a .t1) (a .p) h)) (omega arith) (c .before .before .loop .inv .3)
+          (removed-at (a .t1) (a .p) h _ absent (c .before .before .loop .inv .0)),
     )
 
 returns-2 : tie.Need-returns-2 Inv-loop μ-loop
@@ -65,22 +47,15 @@ returns-2 c =
     let a = c .before .before .before .args in
     let e : c .before .loop .i ≡ (mostTargets - 1) = omega arith in
     let h : length (removeAt (a .p) (a .t1)) ≡ (mostTargets - 1) = omega (arith, length-removing (a .t1) (a .p) (omega arith)) in
-    c .before .loop .inv .3 ∙ rw (e, take-all (mostTargets - 1) (removeAt (a .p) (a .t1)) (omega arith), take-all mostTargets (removeAt (a .p) (a .t1) ++ drop (mostTargets - 1) (a .t1)) (rw (length-append, length-drop) (omega arith)))
+    c .before .loop .inv .3
+    ∙ rw (
+      e,
+      take-all (mostTargets - 1) (removeAt (a .p) (a .t1)) (omega arith),
+      take-all mostTargets (removeAt (a .p) (a .t1) ++ drop (mostTargets - 1) (a .t1)) (rw (length-append, length-drop) (omega arith)),
+    )
 
 pub closed-spec : {M : Type 1} → statement M
 closed-spec =
     tie.close
-    (tie.spec
-    Inv-loop
-    μ-loop
-    returns
-    loop-holds
-    add-out
-    mul-out
-    array-copy-out-out
-    mul-out-2
-    array-set-from-out
-    add-i
-    loop-less
-    loop-again
-    returns-2)
+    (tie.spec Inv-loop μ-loop returns loop-holds (λ c. search needs) (λ c. search needs) (λ c. search needs) (λ c. search needs) (λ c. search needs)
+    (λ c. search needs) (λ c. search needs) loop-again returns-2)

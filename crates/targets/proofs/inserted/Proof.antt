@@ -22,74 +22,32 @@ returns c =
     let a = c .before .args in
     whole (a .t1) (a .t ∷ drop (a .p) (a .t1)) mostTargets (a .p) (search needs) (c .if1 .taken)
 
-mul-out : tie.Need-mul-out Inv-loop μ-loop
-mul-out c = search needs
-
-array-set-from-out : tie.Need-array-set-from-out Inv-loop μ-loop
-array-set-from-out c = search needs
-
-add-i : tie.Need-add-i Inv-loop μ-loop
-add-i c = search needs
-
 loop-holds : tie.Need-loop-holds Inv-loop μ-loop
 loop-holds c =
     let a = c .before .args in
     let l : length (a .t1) ≡ mostTargets = search needs in
     (search needs, search needs, search needs, inserting (a .t1) (a .p) (omega arith) (a .t))
 
-sub-out : tie.Need-sub-out Inv-loop μ-loop
-sub-out c = search needs
-
-mul-out-2 : tie.Need-mul-out-2 Inv-loop μ-loop
-mul-out-2 c = search needs
-
-array-copy-out-out : tie.Need-array-copy-out-out Inv-loop μ-loop
-array-copy-out-out c = search needs
-
-mul-out-3 : tie.Need-mul-out-3 Inv-loop μ-loop
-mul-out-3 c = search needs
-
-array-set-from-out-2 : tie.Need-array-set-from-out-2 Inv-loop μ-loop
-array-set-from-out-2 c = search needs
-
-add-i-2 : tie.Need-add-i-2 Inv-loop μ-loop
-add-i-2 c = search needs
-
-loop-less : tie.Need-loop-less Inv-loop μ-loop
-loop-less c = search needs
-
 loop-again : tie.Need-loop-again Inv-loop μ-loop
 loop-again c =
-    let a = c .before .before .before .before .args in
+    let entry = c .before .before .before .before in
+    let a = entry .args in
     let h : a .p < length (a .t1) = omega arith in (
       search needs,
       search needs,
       search needs,
-      laid _ (a .t1) _ _ absent _ (omega (arith, length-inserting (a .t1) (a .p) h (a .t))) (omega arith) (c .before .before .loop .inv .3) (inserted-at (a .t1) (a .p) h (a .t) _ absent (c .before .before .loop .inv .0)),
+      laid _ (a .t1) _ _ absent _ (omega (arith, length-inserting (a .t1) (a .p) h (a .t))) (omega arith) (c .before .before .loop .inv .3)
+          (inserted-at (a .t1) (a .p) h (a .t) _ absent (c .before .before .loop .inv .0)),
     )
 
 returns-2 : tie.Need-returns-2 Inv-loop μ-loop
 returns-2 c =
     let a = c .before .before .before .args in
-    laid-all (take (a .p + 1) (set (a .t1) (a .p) (a .t)) ++ drop (a .p) (a .t1)) (a .t1) _ (c .before .loop .i) mostTargets (omega arith) (c .before .loop .inv .2) (c .before .loop .inv .3) ∙ ap (take mostTargets) (front (a .t1) (a .p) (omega arith) (a .t))
+    laid-all (take (a .p + 1) (set (a .t1) (a .p) (a .t)) ++ drop (a .p) (a .t1)) (a .t1) _ (c .before .loop .i) mostTargets (omega arith)
+    (c .before .loop .inv .2) (c .before .loop .inv .3) ∙ ap (take mostTargets) (front (a .t1) (a .p) (omega arith) (a .t))
 
 pub inserted-spec : {M : Type 1} → statement M
 inserted-spec =
     tie.close
-    (tie.spec
-    Inv-loop
-    μ-loop
-    returns
-    mul-out
-    array-set-from-out
-    add-i
-    loop-holds
-    sub-out
-    mul-out-2
-    array-copy-out-out
-    mul-out-3
-    array-set-from-out-2
-    add-i-2
-    loop-less
-    loop-again
-    returns-2)
+    (tie.spec Inv-loop μ-loop returns (λ c. search needs) (λ c. search needs) (λ c. search needs) loop-holds (λ c. search needs) (λ c. search needs)
+    (λ c. search needs) (λ c. search needs) (λ c. search needs) (λ c. search needs) (λ c. search needs) loop-again returns-2)

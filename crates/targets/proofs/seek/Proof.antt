@@ -21,9 +21,6 @@ Inv-loop ids count identity m n i₀ i =
 abbrev μ-loop : tie.MeasureT-loop
 μ-loop ids count identity m n i₀ i = n - i
 
-least-requires : tie.Need-least-requires Inv-loop μ-loop
-least-requires c κs = search needs
-
 loop-holds : tie.Need-loop-holds Inv-loop μ-loop
 loop-holds c =
     let ids = c .before .before .before .args .ids .now in
@@ -32,7 +29,14 @@ loop-holds c =
     elim (c .if1 .came) [
       | inl z ↦ rw (z .1) (omega arith, small, omega (arith, z .0 .taken), refl, refl)
       | inr z ↦
-          rw (z .1) (omega arith, omega (arith, z .0 .left, small), omega arith, take-all (length ids) ids (omega arith) ∙ sym (take-all m ids (omega (arith, z .0 .left))), refl)
+          rw (z .1) (
+            omega arith,
+            omega (arith, z .0 .left, small),
+            omega arith,
+            take-all (length ids) ids (omega arith)
+                ∙ sym (take-all m ids (omega (arith, z .0 .left))),
+            refl,
+          )
     ]
 
 -- what is searched is what the contract names
@@ -40,15 +44,10 @@ searched : (x m n count : ℕ) (ids : List ℕ) → take n ids ≡ take m ids �
     → spotIn 0 x (take n ids) ≡ spotIn 0 x (take (atMost count) ids)
 searched x m n count ids e k = ap (spotIn 0 x) (e ∙ ap (λ (j : ℕ). take j ids) k)
 
-mul-k : tie.Need-mul-k Inv-loop μ-loop
-mul-k c = search needs
-
-shared-slice-read-k : tie.Need-shared-slice-read-k Inv-loop μ-loop
-shared-slice-read-k c = search needs
-
 returns : tie.Need-returns Inv-loop μ-loop
 returns c =
-    let l = c .before .before .before .before .loop in
+    let turn = c .before .before .before .before in
+    let l = turn .loop in
     let b = c .before .before .before .before .before in
     let a = b .before .before .before .args in (
       search-held (a .identity) (b .if1 .n) (a .ids .now) (l .i) (l .inv .2) (l .inv .4) (omega arith) (c .before .if2 .taken) (c .if3 .taken)
@@ -58,19 +57,14 @@ returns c =
 
 returns-2 : tie.Need-returns-2 Inv-loop μ-loop
 returns-2 c =
-    let l = c .before .before .before .before .loop in
+    let turn = c .before .before .before .before in
+    let l = turn .loop in
     let b = c .before .before .before .before .before in
     let a = b .before .before .before .args in (
       search-free (a .identity) (b .if1 .n) (a .ids .now) (l .i) (l .inv .2) (l .inv .4) (omega arith) (c .before .if2 .taken) (c .if3 .left)
           ∙ searched (a .identity) _ (b .if1 .n) (a .count) (a .ids .now) (l .inv .3) (b .before .least .ensures),
       refl,
     )
-
-add-i : tie.Need-add-i Inv-loop μ-loop
-add-i c = search needs
-
-loop-less : tie.Need-loop-less Inv-loop μ-loop
-loop-less c = search needs
 
 loop-again : tie.Need-loop-again Inv-loop μ-loop
 loop-again c =
@@ -92,16 +86,5 @@ returns-3 c =
 pub seek-spec : {M : Type 1} → statement M
 seek-spec =
     tie.close
-    (tie.spec
-    Inv-loop
-    μ-loop
-    least-requires
-    loop-holds
-    mul-k
-    shared-slice-read-k
-    returns
-    returns-2
-    add-i
-    loop-less
-    loop-again
-    returns-3)
+    (tie.spec Inv-loop μ-loop (λ c κs. search needs) loop-holds (λ c. search needs) (λ c. search needs) returns returns-2 (λ c. search needs)
+    (λ c. search needs) loop-again returns-3)

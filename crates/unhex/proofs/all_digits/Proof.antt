@@ -15,9 +15,6 @@ Inv-loop s last ok₀ i₀ ok i = (i ≤ last + 16) × (ok ≡ (allDigits (drop 
 abbrev μ-loop : tie.MeasureT-loop
 μ-loop s last ok₀ i₀ ok i = last + 16 - i
 
-each-digit-requires : tie.Need-each-digit-requires Inv-loop μ-loop
-each-digit-requires c κs = tt
-
 returns : tie.Need-returns Inv-loop μ-loop
 returns c = (c .each-digit .ensures, refl)
 
@@ -42,29 +39,20 @@ loop-less c = omega arith
 
 loop-again : tie.Need-loop-again Inv-loop μ-loop
 loop-again c =
+    let entry = c .before .before .before .before .before .before in
     let l = c .before .before .loop in
-    let s = c .before .before .before .before .before .before .args .s .now in
+    let s = entry .args .s .now in
     (omega arith, block-on s (l .i) 16 (allDigits (drop (length s - 16) s)) (l .inv .1) (c .block-of-digits2 .ensures))
 
 returns-2 : tie.Need-returns-2 Inv-loop μ-loop
 returns-2 c =
+    let entry = c .before .before .before .before .before in
     let l = c .before .loop in
-    let s = c .before .before .before .before .before .args .s .now in
+    let s = entry .args .s .now in
     (l .inv .1 ∙ blocks-end s (length s - 16) (l .i) (omega arith), refl)
 
 pub all-digits-spec : {M : Type 1} → statement M
 all-digits-spec =
     tie.close
-    (tie.spec
-    Inv-loop
-    μ-loop
-    each-digit-requires
-    returns
-    sub-last
-    block-of-digits-requires
-    loop-holds
-    block-of-digits-requires-2
-    add-i
-    loop-less
-    loop-again
+    (tie.spec Inv-loop μ-loop (λ c κs. tt) returns sub-last block-of-digits-requires loop-holds block-of-digits-requires-2 add-i loop-less loop-again
     returns-2)

@@ -33,11 +33,9 @@ loop-holds c = (omega arith, refl)
 
 shared-slice-read-is-digit : tie.Need-shared-slice-read-is-digit Inv-loop μ-loop
 shared-slice-read-is-digit c =
-    let a = c .before .before .before .before .before .args in
+    let entry = c .before .before .before .before .before in
+    let a = entry .args in
     omega (arith, part-length (a .s .now) (a .at) 16 (omega arith))
-
-is-digit-requires : tie.Need-is-digit-requires Inv-loop μ-loop
-is-digit-requires c κs = tt
 
 add-i : tie.Need-add-i Inv-loop μ-loop
 add-i c = omega arith
@@ -47,15 +45,17 @@ loop-less c = omega arith
 
 loop-again : tie.Need-loop-again Inv-loop μ-loop
 loop-again c =
+    let entry = c .before .before .before .before .before .before in
     let l = c .before .before .before .loop in
-    let a = c .before .before .before .before .before .before .args in
+    let a = entry .args in
     let n = part-length (a .s .now) (a .at) 16 (omega arith) in
     (omega arith, digits-on (take (a .at + 16 - a .at) (drop (a .at) (a .s .now))) (l .i) (l .ok) (omega arith) (c .is-digit .ensures) ∙ l .inv .1)
 
 returns : tie.Need-returns Inv-loop μ-loop
 returns c =
+    let entry = c .before .before .before .before in
     let l = c .before .loop in
-    let a = c .before .before .before .before .args in
+    let a = entry .args in
     let n = part-length (a .s .now) (a .at) 16 (omega arith) in
     let w : a .at + 16 - a .at ≡ 16 = omega arith in
     sym (digits-end (take (a .at + 16 - a .at) (drop (a .at) (a .s .now))) (l .i) (l .ok) (omega arith)) ∙ l .inv .1
@@ -64,17 +64,5 @@ returns c =
 pub block-of-digits-spec : {M : Type 1} → statement M
 block-of-digits-spec =
     tie.close
-    (tie.spec
-    Inv-loop
-    μ-loop
-    add-part
-    sub-part
-    part-part-start
-    part-part-end
-    loop-holds
-    shared-slice-read-is-digit
-    is-digit-requires
-    add-i
-    loop-less
-    loop-again
-    returns)
+    (tie.spec Inv-loop μ-loop add-part sub-part part-part-start part-part-end loop-holds shared-slice-read-is-digit (λ c κs. tt) add-i loop-less
+    loop-again returns)

@@ -22,9 +22,6 @@ loop-holds c = (omega arith, refl)
 shared-slice-read-is-digit : tie.Need-shared-slice-read-is-digit Inv-loop μ-loop
 shared-slice-read-is-digit c = omega arith
 
-is-digit-requires : tie.Need-is-digit-requires Inv-loop μ-loop
-is-digit-requires c κs = tt
-
 add-i : tie.Need-add-i Inv-loop μ-loop
 add-i c = omega arith
 
@@ -33,8 +30,9 @@ loop-less c = omega arith
 
 loop-again : tie.Need-loop-again Inv-loop μ-loop
 loop-again c =
+    let entry = c .before .before .before .before .before in
     let l = c .before .before .before .loop in
-    let s = c .before .before .before .before .before .args .s .now in
+    let s = entry .args .s .now in
     (omega arith, digits-on s (l .i) (l .ok) (omega arith) (c .is-digit .ensures) ∙ l .inv .1)
 
 returns : tie.Need-returns Inv-loop μ-loop
@@ -46,13 +44,4 @@ returns c =
 pub each-digit-spec : {M : Type 1} → statement M
 each-digit-spec =
     tie.close
-    (tie.spec
-    Inv-loop
-    μ-loop
-    loop-holds
-    shared-slice-read-is-digit
-    is-digit-requires
-    add-i
-    loop-less
-    loop-again
-    returns)
+    (tie.spec Inv-loop μ-loop loop-holds shared-slice-read-is-digit (λ c κs. tt) add-i loop-less loop-again returns)

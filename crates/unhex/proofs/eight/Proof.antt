@@ -95,13 +95,18 @@ add-result-7 c = omega arith
 
 returns : tie.Need-returns
 returns c =
-    let a = c .before .before .before .before .before .before .before .before .before .args in
+    let at-wide4 = c .before .before .before .before in
+    let at-wide3 = at-wide4 .before in
+    let at-wide2 = at-wide3 .before in
+    let at-wide = at-wide2 .before in
+    let entry = at-wide .before .before in
+    let a = entry .args in
     let s = a .s .now in
     let at = a .at in
-    word-on s at (at + 1) 7 _ (c .before .before .before .before .before .before .before .wide .ensures) (omega arith) refl (
-    word-on s (at + 1) (at + 2) 6 _ (c .before .before .before .before .before .before .wide2 .ensures) (omega arith) refl (
-    word-on s (at + 2) (at + 3) 5 _ (c .before .before .before .before .before .wide3 .ensures) (omega arith) refl (
-    word-on s (at + 3) (at + 4) 4 _ (c .before .before .before .before .wide4 .ensures) (omega arith) refl (
+    word-on s at (at + 1) 7 _ (at-wide .wide .ensures) (omega arith) refl (
+    word-on s (at + 1) (at + 2) 6 _ (at-wide2 .wide2 .ensures) (omega arith) refl (
+    word-on s (at + 2) (at + 3) 5 _ (at-wide3 .wide3 .ensures) (omega arith) refl (
+    word-on s (at + 3) (at + 4) 4 _ (at-wide4 .wide4 .ensures) (omega arith) refl (
     word-on s (at + 4) (at + 5) 3 _ (c .before .before .before .wide5 .ensures) (omega arith) refl (
     word-on s (at + 5) (at + 6) 2 _ (c .before .before .wide6 .ensures) (omega arith) refl (
     word-on s (at + 6) (at + 7) 1 _ (c .before .wide7 .ensures) (omega arith) refl (
@@ -110,34 +115,6 @@ returns c =
 pub eight-spec : {M : Type 1} → statement M
 eight-spec =
     tie.close
-    (tie.spec
-    wide-requires
-    add-wide
-    wide-requires-2
-    add-wide-2
-    wide-requires-3
-    add-wide-3
-    wide-requires-4
-    add-wide-4
-    wide-requires-5
-    add-wide-5
-    wide-requires-6
-    add-wide-6
-    wide-requires-7
-    add-wide-7
-    wide-requires-8
-    mul-result
-    add-result
-    mul-result-2
-    add-result-2
-    mul-result-3
-    add-result-3
-    mul-result-4
-    add-result-4
-    mul-result-5
-    add-result-5
-    mul-result-6
-    add-result-6
-    mul-result-7
-    add-result-7
-    returns)
+    (tie.spec wide-requires add-wide wide-requires-2 add-wide-2 wide-requires-3 add-wide-3 wide-requires-4 add-wide-4 wide-requires-5 add-wide-5
+    wide-requires-6 add-wide-6 wide-requires-7 add-wide-7 wide-requires-8 mul-result add-result mul-result-2 add-result-2 mul-result-3 add-result-3
+    mul-result-4 add-result-4 mul-result-5 add-result-5 mul-result-6 add-result-6 mul-result-7 add-result-7 returns)

@@ -27,13 +27,11 @@ mul-v c =
 shared-slice-read-low : tie.Need-shared-slice-read-low Inv-loop μ-loop
 shared-slice-read-low c = omega arith
 
-low-requires : tie.Need-low-requires Inv-loop μ-loop
-low-requires c κs = tt
-
 add-v : tie.Need-add-v Inv-loop μ-loop
 add-v c =
+    let entry = c .before .before .before .before .before in
     let l = c .before .before .before .loop in
-    let s = c .before .before .before .before .before .args .s .now in
+    let s = entry .args .s .now in
     omega (arith, l .inv .1, room lows-reads s 0 (l .i) (omega arith), c .low .ensures)
 
 add-i : tie.Need-add-i Inv-loop μ-loop
@@ -44,8 +42,9 @@ loop-less c = omega arith
 
 loop-again : tie.Need-loop-again Inv-loop μ-loop
 loop-again c =
+    let entry = c .before .before .before .before .before in
     let l = c .before .before .before .loop in
-    let s = c .before .before .before .before .before .args .s .now in
+    let s = entry .args .s .now in
     (omega arith, next lows-reads s 0 (l .i) (l .inv .1) (ap (λ (k : ℕ). getD s k 0) (sym (zero-add (l .i)))) (c .low .ensures))
 
 returns : tie.Need-returns Inv-loop μ-loop
@@ -58,15 +57,4 @@ returns c =
 pub lows-of-spec : {M : Type 1} → statement M
 lows-of-spec =
     tie.close
-    (tie.spec
-    Inv-loop
-    μ-loop
-    loop-holds
-    mul-v
-    shared-slice-read-low
-    low-requires
-    add-v
-    add-i
-    loop-less
-    loop-again
-    returns)
+    (tie.spec Inv-loop μ-loop loop-holds mul-v shared-slice-read-low (λ c κs. tt) add-v add-i loop-less loop-again returns)

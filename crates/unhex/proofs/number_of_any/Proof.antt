@@ -23,16 +23,11 @@ mul-v c =
     let a = c .before .before .before .args in
     omega (arith, l .inv .1, room hex-reads (a .s .now) (a .at) (l .i) (omega arith))
 
-byte-at-requires : tie.Need-byte-at-requires Inv-loop μ-loop
-byte-at-requires c κs = tt
-
-digit-requires : tie.Need-digit-requires Inv-loop μ-loop
-digit-requires c κs = tt
-
 add-v : tie.Need-add-v Inv-loop μ-loop
 add-v c =
+    let entry = c .before .before .before .before .before in
     let l = c .before .before .before .loop in
-    let a = c .before .before .before .before .before .args in
+    let a = entry .args in
     omega (arith, l .inv .1, room hex-reads (a .s .now) (a .at) (l .i) (omega arith), c .digit .ensures, digit-below (c .before .byte-at .result))
 
 add-i : tie.Need-add-i Inv-loop μ-loop
@@ -43,8 +38,9 @@ loop-less c = omega arith
 
 loop-again : tie.Need-loop-again Inv-loop μ-loop
 loop-again c =
+    let entry = c .before .before .before .before .before in
     let l = c .before .before .before .loop in
-    let a = c .before .before .before .before .before .args in
+    let a = entry .args in
     (omega arith, next hex-reads (a .s .now) (a .at) (l .i) (l .inv .1) (c .before .byte-at .ensures) (c .digit .ensures))
 
 returns : tie.Need-returns Inv-loop μ-loop
@@ -57,15 +53,4 @@ returns c =
 pub number-of-any-spec : {M : Type 1} → statement M
 number-of-any-spec =
     tie.close
-    (tie.spec
-    Inv-loop
-    μ-loop
-    loop-holds
-    mul-v
-    byte-at-requires
-    digit-requires
-    add-v
-    add-i
-    loop-less
-    loop-again
-    returns)
+    (tie.spec Inv-loop μ-loop loop-holds mul-v (λ c κs. tt) (λ c κs. tt) add-v add-i loop-less loop-again returns)

@@ -4,45 +4,6 @@ use borrow.Author.Needs.{needs}
 use Rattle.board.proofs.board.change_of.Statement.{statement}
 use Rattle.board.proofs.board.change_of.Tie as tie
 
-enum-known-call : tie.Need-enum-known-call
-enum-known-call c = search needs
-
-vehicle-requires : tie.Need-vehicle-requires
-vehicle-requires c κs = search needs
-
-placing-requires : tie.Need-placing-requires
-placing-requires c κs = search needs
-
-enum-told : tie.Need-enum-told
-enum-told c = search needs
-
-enum-known-spot : tie.Need-enum-known-spot
-enum-known-spot c = search needs
-
-enum-told-2 : tie.Need-enum-told-2
-enum-told-2 c = search needs
-
-enum-told-3 : tie.Need-enum-told-3
-enum-told-3 c = search needs
-
-enum-told-4 : tie.Need-enum-told-4
-enum-told-4 c = search needs
-
-enum-known-call-2 : tie.Need-enum-known-call-2
-enum-known-call-2 c = search needs
-
-enum-told-5 : tie.Need-enum-told-5
-enum-told-5 c = search needs
-
-enum-known-found : tie.Need-enum-known-found
-enum-known-found c = search needs
-
-with-line-requires : tie.Need-with-line-requires
-with-line-requires c κs = search needs
-
-placing-requires-2 : tie.Need-placing-requires-2
-placing-requires-2 c κs = search needs
-
 returns : tie.Need-returns
 returns c = rw (c .placing .ensures, c .before .vehicle .ensures, c .before .before .before .call .given .1) (report-changes _ _ _ _ _)
 
@@ -62,29 +23,13 @@ returns-6 : tie.Need-returns-6
 returns-6 c = rw (c .before .before .before .call2 .given .1, c .enum-told5 .given .1) (solve-stays _ _ _)
 
 returns-7 : tie.Need-returns-7
-returns-7 c = rw (c .placing2 .ensures, c .before .with-line .ensures, c .before .before .before .before .before .before .call2 .given .1, c .before .before .before .found .given .1) (solve-changes _ _ _ _)
+returns-7 c =
+    let at-call2 = c .before .before .before .before .before .before in
+    rw (c .placing2 .ensures, c .before .with-line .ensures, at-call2 .call2 .given .1, c .before .before .before .found .given .1) (solve-changes _ _ _ _)
 
 pub change-of-spec : {M : Type 1} → statement M
 change-of-spec =
     tie.close
-    (tie.spec
-    enum-known-call
-    vehicle-requires
-    placing-requires
-    enum-told
-    enum-known-spot
-    enum-told-2
-    enum-told-3
-    enum-told-4
-    enum-known-call-2
-    enum-told-5
-    enum-known-found
-    with-line-requires
-    placing-requires-2
-    returns
-    returns-2
-    returns-3
-    returns-4
-    returns-5
-    returns-6
-    returns-7)
+    (tie.spec (λ c. search needs) (λ c κs. search needs) (λ c κs. search needs) (λ c. search needs) (λ c. search needs) (λ c. search needs)
+    (λ c. search needs) (λ c. search needs) (λ c. search needs) (λ c. search needs) (λ c. search needs) (λ c κs. search needs) (λ c κs. search needs)
+    returns returns-2 returns-3 returns-4 returns-5 returns-6 returns-7)

@@ -11,20 +11,12 @@ use Rattle.plain.proofs.Played.{whole}
 use Rattle.board.proofs.board.fresh.Statement.{statement}
 use Rattle.board.proofs.board.fresh.Tie as tie
 
-empty-requires : tie.Need-empty-requires
-empty-requires c κs = search needs
-
-radius-asked-requires : tie.Need-radius-asked-requires
-radius-asked-requires c κs = search needs
-
-ask-requires : tie.Need-ask-requires
-ask-requires c κs = search needs
-
 returns : tie.Need-returns
 unfolding plain fresh begins listed
-returns c = let b : Board = record { radius = c .before .before .before .args .radius; own = Nobody; track = Nowhere; targets = c .before .before .empty .result; total = 0 } in
+returns c =
+    let b : Board = record { radius = c .before .before .before .args .radius; own = Nobody; track = Nowhere; targets = c .before .before .empty .result; total = 0 } in
     let is : plain b ≡ fresh (c .before .before .before .args .radius) = rw (c .before .before .empty .ensures) in
     (c .ask .ensures ∙ rw (c .before .radius-asked .ensures), is, whole (c .before .before .before .args .radius) b is)
 
 pub fresh-spec : {M : Type 1} → statement M
-fresh-spec = tie.close (tie.spec empty-requires radius-asked-requires ask-requires returns)
+fresh-spec = tie.close (tie.spec (λ c κs. search needs) (λ c κs. search needs) (λ c κs. search needs) returns)

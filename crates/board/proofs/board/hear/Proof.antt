@@ -17,41 +17,25 @@ use Rattle.board.proofs.Changes.{sought-is, answered-is, within-is, cha
 use Rattle.board.proofs.board.hear.Statement.{statement}
 use Rattle.board.proofs.board.hear.Tie as tie
 
-least-requires : tie.Need-least-requires
-least-requires c κs = tt
-
-name-of-requires : tie.Need-name-of-requires
-name-of-requires c κs = tt
-
 seek-in-requires : tie.Need-seek-in-requires
-seek-in-requires c κs = rw (c .before .least .ensures) (at-most-le (c .before .before .before .before .args .board .targets .count))
-
-answer-of-requires : tie.Need-answer-of-requires
-answer-of-requires c κs = tt
-
-refuses-requires : tie.Need-refuses-requires
-refuses-requires c κs = tt
+seek-in-requires c κs =
+    let entry = c .before .before .before .before in
+    rw (c .before .least .ensures) (at-most-le (entry .args .board .targets .count))
 
 returns : tie.Need-returns
 unfolding plain listed
 returns c =
-    let a = c .before .before .before .before .before .before .before .before .args in
-    let s = sought-is (a .board .targets) _ _ _ _ (c .before .before .before .seek-in .ensures) (c .before .before .before .before .before .least .ensures) (c .before .before .before .before .name-of .ensures) in
+    let at-name-of = c .before .before .before .before in
+    let at-least = at-name-of .before in
+    let entry = at-least .before .before .before in
+    let a = entry .args in
+    let s = sought-is (a .board .targets) _ _ _ _ (c .before .before .before .seek-in .ensures) (at-least .least .ensures) (at-name-of .name-of .ensures) in
     let k = answered-is (a .board) (a .call) _ _ _ (c .before .before .answer-of .ensures) (s .1) (s .2) in
     record {
       answer-is = k;
       board-is = heard-refused (a .board) (a .call) _ k (not-true _ (sym (c .before .refuses .ensures) ∙ c .if1 .taken));
       refused-keeps = λ e. refl;
     }
-
-change-of-requires : tie.Need-change-of-requires
-change-of-requires c κs = tt
-
-enum-told : tie.Need-enum-told
-enum-told c = search needs
-
-enum-known-change : tie.Need-enum-known-change
-enum-known-change c = search needs
 
 -- a target that takes the place of another takes that of one of the entries
 place-below : (c : tie.After-known-told) → c .before .change .given .0 .0 < mostTargets
@@ -60,7 +44,8 @@ place-below c =
     let d = c .before .before .before in
     let a = d .before .before .before .before .before .before .before .before .before .args in
     let k = d .before .before .before .before .seek-in .ensures in
-    let s = sought-is (a .board .targets) _ _ _ _ k (d .before .before .before .before .before .before .least .ensures) (d .before .before .before .before .before .name-of .ensures) in
+    let s = sought-is (a .board .targets) _ _ _ _ k (d .before .before .before .before .before .before .least .ensures)
+    (d .before .before .before .before .before .name-of .ensures) in
     let w = within-is (a .board) (a .call) _ _ _ _ (k .length-is) (s .0) (s .1) (d .change-of .ensures) in
     let v = subst (λ (r : Change). Within r (atMost (a .board .targets .count))) (c .before .change .given .1) w in
     omega (arith, v, at-most-le (a .board .targets .count))
@@ -71,41 +56,16 @@ mul-entries c = omega (arith, place-below c)
 array-set-from-entries : tie.Need-array-set-from-entries
 array-set-from-entries c = place-below c
 
-enum-known-change-2 : tie.Need-enum-known-change-2
-enum-known-change-2 c = search needs
-
-inserted-requires : tie.Need-inserted-requires
-inserted-requires c κs = tt
-
-enum-known-change-3 : tie.Need-enum-known-change-3
-enum-known-change-3 c = search needs
-
-closed-requires : tie.Need-closed-requires
-closed-requires c κs = tt
-
-enum-told-2 : tie.Need-enum-told-2
-enum-told-2 c = search needs
-
-bared-requires : tie.Need-bared-requires
-bared-requires c κs = tt
-
-own-after-requires : tie.Need-own-after-requires
-own-after-requires c κs = tt
-
-track-after-requires : tie.Need-track-after-requires
-track-after-requires c κs = tt
-
 count-after-requires : tie.Need-count-after-requires
 count-after-requires c κs =
     let d = c .before .before .before in
-    rw (d .before .before .before .before .before .before .least .ensures) (at-most-le (d .before .before .before .before .before .before .before .before .before .args .board .targets .count))
-
-total-after-requires : tie.Need-total-after-requires
-total-after-requires c κs = tt
+    rw (d .before .before .before .before .before .before .least .ensures)
+    (at-most-le (d .before .before .before .before .before .before .before .before .before .args .board .targets .count))
 
 -- each arm leaves what its change makes of the entries
 arms : (c : tie.At-match-came) → (c .match .change ≡ c .before .change-of .result)
-    × (c .match .entries ≡ entriesAfter (c .before .change-of .result) (c .before .before .before .before .before .before .before .before .before .before .args .board .targets .entries))
+    × (c .match .entries ≡ entriesAfter (c .before .change-of .result)
+    (c .before .before .before .before .before .before .before .before .before .before .args .board .targets .entries))
 unfolding entriesAfter
 arms c =
     elim (c .match .came) [
@@ -144,26 +104,6 @@ returns-2 c =
 pub hear-spec : {M : Type 1} → statement M
 hear-spec =
     tie.close
-    (tie.spec
-    least-requires
-    name-of-requires
-    seek-in-requires
-    answer-of-requires
-    refuses-requires
-    returns
-    change-of-requires
-    enum-told
-    enum-known-change
-    mul-entries
-    array-set-from-entries
-    enum-known-change-2
-    inserted-requires
-    enum-known-change-3
-    closed-requires
-    enum-told-2
-    bared-requires
-    own-after-requires
-    track-after-requires
-    count-after-requires
-    total-after-requires
-    returns-2)
+    (tie.spec (λ c κs. tt) (λ c κs. tt) seek-in-requires (λ c κs. tt) (λ c κs. tt) returns (λ c κs. tt) (λ c. search needs) (λ c. search needs)
+    mul-entries array-set-from-entries (λ c. search needs) (λ c κs. tt) (λ c. search needs) (λ c κs. tt) (λ c. search needs) (λ c κs. tt) (λ c κs. tt)
+    (λ c κs. tt) count-after-requires (λ c κs. tt) returns-2)

@@ -3,12 +3,6 @@ use borrow.Author.Needs.{needs}
 use Rattle.board.proofs.board.placing.Statement.{statement}
 use Rattle.board.proofs.board.placing.Tie as tie
 
-enum-known-spot : tie.Need-enum-known-spot
-enum-known-spot c = search needs
-
-enum-known-spot-2 : tie.Need-enum-known-spot-2
-enum-known-spot-2 c = search needs
-
 returns : tie.Need-returns
 returns c = rw (c .before .spot .given .1)
 
@@ -16,4 +10,4 @@ returns-2 : tie.Need-returns-2
 returns-2 c = rw (c .before .spot2 .given .1)
 
 pub placing-spec : {M : Type 1} → statement M
-placing-spec = tie.close (tie.spec enum-known-spot enum-known-spot-2 returns returns-2)
+placing-spec = tie.close (tie.spec (λ c. search needs) (λ c. search needs) returns returns-2)

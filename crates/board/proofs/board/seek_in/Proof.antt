@@ -18,40 +18,22 @@ Inv-loop n identity entries i₀ i =
 abbrev μ-loop : tie.MeasureT-loop
 μ-loop n identity entries i₀ i = n - i
 
-loop-holds : tie.Need-loop-holds Inv-loop μ-loop
-loop-holds c = search needs
-
-mul-k : tie.Need-mul-k Inv-loop μ-loop
-mul-k c = search needs
-
-element-copy-out-k : tie.Need-element-copy-out-k Inv-loop μ-loop
-element-copy-out-k c = search needs
-
-mul-t : tie.Need-mul-t Inv-loop μ-loop
-mul-t c = search needs
-
-array-copy-out-t : tie.Need-array-copy-out-t Inv-loop μ-loop
-array-copy-out-t c = search needs
-
 returns : tie.Need-returns Inv-loop μ-loop
 returns c =
-    let l = c .before .before .before .before .before .loop in
-    let a = c .before .before .before .before .before .before .args in
+    let turn = c .before .before .before .before .before in
+    let entry = turn .before in
+    let l = turn .loop in
+    let a = entry .args in
     let s = entry-same (a .identity) (a .n) (a .t1) (l .i) (omega arith) (l .inv .3) (omega arith) (c .before .before .before .if1 .taken) (c .before .before .if2 .taken) in
     record { length-is = l .inv .2; spot-is = s; found-is = sym (found-at (a .t1) (a .n) (l .inv .2) (l .inv .1) (a .identity) (l .i) (sym s)) }
 
 returns-2 : tie.Need-returns-2 Inv-loop μ-loop
 returns-2 c =
+    let entry = c .before .before .before .before in
     let l = c .before .before .before .loop in
-    let a = c .before .before .before .before .args in
+    let a = entry .args in
     let s = entry-above (a .identity) (a .n) (a .t1) (l .i) (omega arith) (l .inv .3) (omega arith) (c .before .if1 .taken) (c .if2 .left) in
     record { length-is = l .inv .2; spot-is = s; found-is = sym (found-none (a .t1) (a .n) (l .inv .2) (l .inv .1) (a .identity) (l .i) (sym s)) }
-
-add-i : tie.Need-add-i Inv-loop μ-loop
-add-i c = search needs
-
-loop-less : tie.Need-loop-less Inv-loop μ-loop
-loop-less c = search needs
 
 loop-again : tie.Need-loop-again Inv-loop μ-loop
 loop-again c =
@@ -69,17 +51,5 @@ returns-3 c =
 pub seek-in-spec : {M : Type 1} → statement M
 seek-in-spec =
     tie.close
-    (tie.spec
-    Inv-loop
-    μ-loop
-    loop-holds
-    mul-k
-    element-copy-out-k
-    mul-t
-    array-copy-out-t
-    returns
-    returns-2
-    add-i
-    loop-less
-    loop-again
-    returns-3)
+    (tie.spec Inv-loop μ-loop (λ c. search needs) (λ c. search needs) (λ c. search needs) (λ c. search needs) (λ c. search needs) returns returns-2
+    (λ c. search needs) (λ c. search needs) loop-again returns-3)

@@ -4,18 +4,6 @@ use borrow.Author.Needs.{needs}
 use Rattle.board.proofs.board.total_after.Statement.{statement}
 use Rattle.board.proofs.board.total_after.Tie as tie
 
-enum-told : tie.Need-enum-told
-enum-told c = search needs
-
-enum-known-answer : tie.Need-enum-known-answer
-enum-known-answer c = search needs
-
-raise-requires : tie.Need-raise-requires
-raise-requires c κs = search needs
-
-enum-told-2 : tie.Need-enum-told-2
-enum-told-2 c = search needs
-
 returns : tie.Need-returns
 returns c = rw (c .enum-told .given .1)
 
@@ -28,4 +16,4 @@ returns-3 c = rw (c .enum-told2 .given .1)
 pub total-after-spec : {M : Type 1} → statement M
 total-after-spec =
     tie.close
-    (tie.spec enum-told enum-known-answer raise-requires enum-told-2 returns returns-2 returns-3)
+    (tie.spec (λ c. search needs) (λ c. search needs) (λ c κs. search needs) (λ c. search needs) returns returns-2 returns-3)

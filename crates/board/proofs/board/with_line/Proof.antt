@@ -3,15 +3,6 @@ use borrow.Author.Needs.{needs}
 use Rattle.board.proofs.board.with_line.Statement.{statement}
 use Rattle.board.proofs.board.with_line.Tie as tie
 
-enum-told : tie.Need-enum-told
-enum-told c = search needs
-
-enum-known-answer : tie.Need-enum-known-answer
-enum-known-answer c = search needs
-
-enum-told-2 : tie.Need-enum-told-2
-enum-told-2 c = search needs
-
 returns : tie.Need-returns
 returns c = rw (c .enum-told .given .1)
 
@@ -23,4 +14,4 @@ returns-3 c = rw (c .enum-told2 .given .1)
 
 pub with-line-spec : {M : Type 1} → statement M
 with-line-spec =
-    tie.close (tie.spec enum-told enum-known-answer enum-told-2 returns returns-2 returns-3)
+    tie.close (tie.spec (λ c. search needs) (λ c. search needs) (λ c. search needs) returns returns-2 returns-3)

@@ -12,20 +12,9 @@ use Rattle.board.proofs.Glances.{refused-stays, report-goes}
 use Rattle.board.proofs.glance.at_report.Statement.{statement}
 use Rattle.board.proofs.glance.at_report.Tie as tie
 
-identity-asked-requires : tie.Need-identity-asked-requires
-identity-asked-requires c κs = search needs
-
-ask-fix-requires : tie.Need-ask-fix-requires
-ask-fix-requires c κs = search needs
-
-ask-requires : tie.Need-ask-requires
-ask-requires c κs = search needs
-
-refuses-requires : tie.Need-refuses-requires
-refuses-requires c κs = search needs
-
 -- what the questions of identity and fix come to
-asked : (c : tie.After-ask) → c .ask .result ≡ ask (identityAsked (c .before .before .before .before .args .identity)) (askFix (c .before .before .before .before .args .fix) Done)
+asked : (c : tie.After-ask)
+    → c .ask .result ≡ ask (identityAsked (c .before .before .before .before .args .identity)) (askFix (c .before .before .before .before .args .fix) Done)
 asked c = c .ask .ensures ∙ rw (c .before .ask-fix .ensures, c .before .before .identity-asked .ensures)
 
 returns : tie.Need-returns
@@ -33,18 +22,6 @@ unfolding atReport
 returns c =
     let q = asked (c .before .before) in
     ap Stays q ∙ refused-stays _ _ (ap accepts (sym q) ∙ not-true _ (sym (c .before .refuses .ensures) ∙ c .if1 .taken))
-
-seek-requires : tie.Need-seek-requires
-seek-requires c κs = search needs
-
-enum-known-p : tie.Need-enum-known-p
-enum-known-p c = search needs
-
-vehicle-requires : tie.Need-vehicle-requires
-vehicle-requires c κs = search needs
-
-enum-told : tie.Need-enum-told
-enum-told c = search needs
 
 -- the questions let the report through, and k is its place
 goes : (c : tie.After-seek) (k : Spot) → c .seek .result ≡ k
@@ -63,15 +40,5 @@ returns-3 c = goes (c .before .before) _ (c .enum-told .given .1)
 pub at-report-spec : {M : Type 1} → statement M
 at-report-spec =
     tie.close
-    (tie.spec
-    identity-asked-requires
-    ask-fix-requires
-    ask-requires
-    refuses-requires
-    returns
-    seek-requires
-    enum-known-p
-    vehicle-requires
-    enum-told
-    returns-2
-    returns-3)
+    (tie.spec (λ c κs. search needs) (λ c κs. search needs) (λ c κs. search needs) (λ c κs. search needs) returns (λ c κs. search needs)
+    (λ c. search needs) (λ c κs. search needs) (λ c. search needs) returns-2 returns-3)

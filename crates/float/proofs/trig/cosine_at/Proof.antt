@@ -8,21 +8,6 @@ use borrow.Author.Needs.{needs}
 use Rattle.float.proofs.trig.cosine_at.Statement.{statement}
 use Rattle.float.proofs.trig.cosine_at.Tie as tie
 
-cosine-series-requires : tie.Need-cosine-series-requires
-cosine-series-requires c κs = search needs
-
-sine-series-requires : tie.Need-sine-series-requires
-sine-series-requires c κs = search needs
-
-cosine-series-requires-2 : tie.Need-cosine-series-requires-2
-cosine-series-requires-2 c κs = search needs
-
-sine-series-requires-2 : tie.Need-sine-series-requires-2
-sine-series-requires-2 c κs = search needs
-
-cosine-series-requires-3 : tie.Need-cosine-series-requires-3
-cosine-series-requires-3 c κs = search needs
-
 returns : tie.Need-returns
 returns c = c .cosine-series .ensures ∙ sym (ap (λ (j : ℕ). spec.cosineAt j (c .before .before .args .y)) (c .before .match .keys1))
 
@@ -36,19 +21,13 @@ returns-4 : tie.Need-returns-4
 returns-4 c = c .sine-series2 .ensures ∙ sym (ap (λ (j : ℕ). spec.cosineAt j (c .before .before .args .y)) (c .before .match .keys4))
 
 returns-5 : tie.Need-returns-5
-returns-5 c = c .cosine-series3 .ensures ∙ sym (cosine-past (c .before .before .args .j) (c .before .before .args .y) (c .before .match .rest .0 .0 .0 .1) (c .before .match .rest .0 .0 .1) (c .before .match .rest .0 .1) (c .before .match .rest .1))
+returns-5 c =
+    c .cosine-series3 .ensures
+    ∙ sym (cosine-past (c .before .before .args .j) (c .before .before .args .y) (c .before .match .rest .0 .0 .0 .1)
+    (c .before .match .rest .0 .0 .1) (c .before .match .rest .0 .1) (c .before .match .rest .1))
 
 pub cosine-at-spec : {M : Type 1} → statement M
 cosine-at-spec =
     tie.close
-    (tie.spec
-    cosine-series-requires
-    sine-series-requires
-    cosine-series-requires-2
-    sine-series-requires-2
-    cosine-series-requires-3
-    returns
-    returns-2
-    returns-3
-    returns-4
-    returns-5)
+    (tie.spec (λ c κs. search needs) (λ c κs. search needs) (λ c κs. search needs) (λ c κs. search needs) (λ c κs. search needs) returns returns-2
+    returns-3 returns-4 returns-5)

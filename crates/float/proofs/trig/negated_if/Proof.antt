@@ -6,8 +6,5 @@ use Rattle.float.proofs.trig.negated_if.Tie as tie
 returns : tie.Need-returns
 returns c = simp (c .if1 .taken)
 
-returns-2 : tie.Need-returns-2
-returns-2 c = search needs
-
 pub negated-if-spec : {M : Type 1} → statement M
-negated-if-spec = tie.close (tie.spec returns returns-2)
+negated-if-spec = tie.close (tie.spec returns (λ c. search needs))

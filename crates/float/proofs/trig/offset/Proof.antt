@@ -6,12 +6,9 @@ use borrow.Author.Needs.{needs}
 use Rattle.float.proofs.trig.offset.Statement.{statement}
 use Rattle.float.proofs.trig.offset.Tie as tie
 
-int-to-float-result : tie.Need-int-to-float-result
-int-to-float-result c = search needs
-
 returns : tie.Need-returns
 unfolding spec.offset ofInt ofBits
 returns c = refl
 
 pub offset-spec : {M : Type 1} → statement M
-offset-spec = tie.close (tie.spec int-to-float-result returns)
+offset-spec = tie.close (tie.spec (λ c. search needs) returns)

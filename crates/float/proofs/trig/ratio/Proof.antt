@@ -4,12 +4,6 @@ use borrow.Author.Needs.{needs}
 use Rattle.float.proofs.trig.ratio.Statement.{statement}
 use Rattle.float.proofs.trig.ratio.Tie as tie
 
-quotient-requires : tie.Need-quotient-requires
-quotient-requires c κs = search needs
-
-quotient-requires-2 : tie.Need-quotient-requires-2
-quotient-requires-2 c κs = search needs
-
 returns : tie.Need-returns
 unfolding spec.ratio
 returns c = simp (c .before .if1 .taken) (c .quotient .ensures)
@@ -19,4 +13,4 @@ unfolding spec.ratio
 returns-2 c = simp (c .before .if1 .left) (c .quotient2 .ensures)
 
 pub ratio-spec : {M : Type 1} → statement M
-ratio-spec = tie.close (tie.spec quotient-requires quotient-requires-2 returns returns-2)
+ratio-spec = tie.close (tie.spec (λ c κs. search needs) (λ c κs. search needs) returns returns-2)

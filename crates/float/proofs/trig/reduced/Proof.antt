@@ -6,15 +6,9 @@ use borrow.Author.Needs.{needs}
 use Rattle.float.proofs.trig.reduced.Statement.{statement}
 use Rattle.float.proofs.trig.reduced.Tie as tie
 
-magnitude-requires : tie.Need-magnitude-requires
-magnitude-requires c κs = search needs
-
-rem-requires : tie.Need-rem-requires
-rem-requires c κs = search needs
-
 returns : tie.Need-returns
 unfolding spec.reduced ofInt ofBits
 returns c = c .rem .ensures ∙ ap (λ (m : Float). rem binary64 m _) (c .before .magnitude .ensures)
 
 pub reduced-spec : {M : Type 1} → statement M
-reduced-spec = tie.close (tie.spec magnitude-requires rem-requires returns)
+reduced-spec = tie.close (tie.spec (λ c κs. search needs) (λ c κs. search needs) returns)

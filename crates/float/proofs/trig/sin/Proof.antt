@@ -4,24 +4,6 @@ use borrow.Author.Needs.{needs}
 use Rattle.float.proofs.trig.sin.Statement.{statement}
 use Rattle.float.proofs.trig.sin.Tie as tie
 
-reduced-requires : tie.Need-reduced-requires
-reduced-requires c κs = search needs
-
-quarters-requires : tie.Need-quarters-requires
-quarters-requires c κs = search needs
-
-offset-requires : tie.Need-offset-requires
-offset-requires c κs = search needs
-
-sign-bit-requires : tie.Need-sign-bit-requires
-sign-bit-requires c κs = search needs
-
-sine-at-requires : tie.Need-sine-at-requires
-sine-at-requires c κs = search needs
-
-negated-if-requires : tie.Need-negated-if-requires
-negated-if-requires c κs = search needs
-
 returns : tie.Need-returns
 unfolding spec.sin
 returns c = cc
@@ -29,11 +11,5 @@ returns c = cc
 pub sin-spec : {M : Type 1} → statement M
 sin-spec =
     tie.close
-    (tie.spec
-    reduced-requires
-    quarters-requires
-    sign-bit-requires
-    offset-requires
-    sine-at-requires
-    negated-if-requires
-    returns)
+    (tie.spec (λ c κs. search needs) (λ c κs. search needs) (λ c κs. search needs) (λ c κs. search needs) (λ c κs. search needs)
+    (λ c κs. search needs) returns)

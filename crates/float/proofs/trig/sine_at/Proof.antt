@@ -8,21 +8,6 @@ use borrow.Author.Needs.{needs}
 use Rattle.float.proofs.trig.sine_at.Statement.{statement}
 use Rattle.float.proofs.trig.sine_at.Tie as tie
 
-sine-series-requires : tie.Need-sine-series-requires
-sine-series-requires c κs = search needs
-
-cosine-series-requires : tie.Need-cosine-series-requires
-cosine-series-requires c κs = search needs
-
-sine-series-requires-2 : tie.Need-sine-series-requires-2
-sine-series-requires-2 c κs = search needs
-
-cosine-series-requires-2 : tie.Need-cosine-series-requires-2
-cosine-series-requires-2 c κs = search needs
-
-sine-series-requires-3 : tie.Need-sine-series-requires-3
-sine-series-requires-3 c κs = search needs
-
 returns : tie.Need-returns
 returns c = c .sine-series .ensures ∙ sym (ap (λ (j : ℕ). spec.sineAt j (c .before .before .args .y)) (c .before .match .keys1))
 
@@ -36,19 +21,13 @@ returns-4 : tie.Need-returns-4
 returns-4 c = ap neg (c .cosine-series2 .ensures) ∙ sym (ap (λ (j : ℕ). spec.sineAt j (c .before .before .args .y)) (c .before .match .keys4))
 
 returns-5 : tie.Need-returns-5
-returns-5 c = c .sine-series3 .ensures ∙ sym (sine-past (c .before .before .args .j) (c .before .before .args .y) (c .before .match .rest .0 .0 .0 .1) (c .before .match .rest .0 .0 .1) (c .before .match .rest .0 .1) (c .before .match .rest .1))
+returns-5 c =
+    c .sine-series3 .ensures
+    ∙ sym (sine-past (c .before .before .args .j) (c .before .before .args .y) (c .before .match .rest .0 .0 .0 .1) (c .before .match .rest .0 .0 .1)
+    (c .before .match .rest .0 .1) (c .before .match .rest .1))
 
 pub sine-at-spec : {M : Type 1} → statement M
 sine-at-spec =
     tie.close
-    (tie.spec
-    sine-series-requires
-    cosine-series-requires
-    sine-series-requires-2
-    cosine-series-requires-2
-    sine-series-requires-3
-    returns
-    returns-2
-    returns-3
-    returns-4
-    returns-5)
+    (tie.spec (λ c κs. search needs) (λ c κs. search needs) (λ c κs. search needs) (λ c κs. search needs) (λ c κs. search needs) returns returns-2
+    returns-3 returns-4 returns-5)

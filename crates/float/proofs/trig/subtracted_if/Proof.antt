@@ -6,8 +6,5 @@ use Rattle.float.proofs.trig.subtracted_if.Tie as tie
 returns : tie.Need-returns
 returns c = simp (c .if1 .taken)
 
-returns-2 : tie.Need-returns-2
-returns-2 c = search needs
-
 pub subtracted-if-spec : {M : Type 1} → statement M
-subtracted-if-spec = tie.close (tie.spec returns returns-2)
+subtracted-if-spec = tie.close (tie.spec returns (λ c. search needs))

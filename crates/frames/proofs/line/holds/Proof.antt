@@ -15,24 +15,13 @@ Inv-loop s at part met₀ i₀ met i = (i ≤ 16) × Holds s at i met
 abbrev μ-loop : tie.MeasureT-loop
 μ-loop s at part met₀ i₀ met i = 16 - i
 
-add-part : tie.Need-add-part Inv-loop μ-loop
-add-part c = search needs
-
-sub-part : tie.Need-sub-part Inv-loop μ-loop
-sub-part c = search needs
-
-part-part-start : tie.Need-part-part-start Inv-loop μ-loop
-part-part-start c = search needs
-
-part-part-end : tie.Need-part-part-end Inv-loop μ-loop
-part-part-end c = search needs
-
 loop-holds : tie.Need-loop-holds Inv-loop μ-loop
 loop-holds c = (omega arith, λ e k l u. absurd (omega arith))
 
 shared-slice-read-met : tie.Need-shared-slice-read-met Inv-loop μ-loop
 shared-slice-read-met c =
-    let a = c .before .before .before .before .args in
+    let entry = c .before .before .before .before in
+    let a = entry .args in
     omega (arith, part-length (a .s .now) (a .at) 16 (omega arith))
 
 add-i : tie.Need-add-i Inv-loop μ-loop
@@ -43,8 +32,9 @@ loop-less c = omega arith
 
 loop-again : tie.Need-loop-again Inv-loop μ-loop
 loop-again c =
+    let entry = c .before .before .before .before in
     let l = c .before .before .loop in
-    let a = c .before .before .before .before .args in
+    let a = entry .args in
     (omega arith, holds-on (a .s .now) (a .at) (l .i) (l .met) (part-at (a .s .now) (a .at) 16 (l .i) (omega arith)) (l .inv .1))
 
 returns : tie.Need-returns Inv-loop μ-loop
@@ -56,16 +46,5 @@ returns c =
 pub holds-spec : {M : Type 1} → statement M
 holds-spec =
     tie.close
-    (tie.spec
-    Inv-loop
-    μ-loop
-    add-part
-    sub-part
-    part-part-start
-    part-part-end
-    loop-holds
-    shared-slice-read-met
-    add-i
-    loop-less
-    loop-again
-    returns)
+    (tie.spec Inv-loop μ-loop (λ c. search needs) (λ c. search needs) (λ c. search needs) (λ c. search needs) loop-holds shared-slice-read-met add-i
+    loop-less loop-again returns)

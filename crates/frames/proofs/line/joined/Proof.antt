@@ -48,15 +48,17 @@ loop-less c = omega arith
 
 loop-again : tie.Need-loop-again Inv-loop μ-loop
 loop-again c =
+    let entry = c .before .before .before .before .before in
     let l = c .before .before .loop in
-    let a = c .before .before .before .before .before .args in
+    let a = entry .args in
     let e = kept-is (c .before .before .before) in
     (omega arith, rw (add-one, l .inv .1) (paste-suc (a .line) (a .n) (a .part .now) (l .i) 0 (omega arith) (omega arith)))
 
 returns : tie.Need-returns Inv-loop μ-loop
 returns c =
+    let entry = c .before .before .before .before in
     let l = c .before .loop in
-    let a = c .before .before .before .before .args in
+    let a = entry .args in
     let e = kept-is (c .before .before) in
     let all : a .n + l .i ≡ least (a .n + length (a .part .now)) = omega (arith, c .before .before .kept-of .ensures) in
     rw (l .inv .1)
@@ -68,16 +70,4 @@ returns c =
 pub joined-spec : {M : Type 1} → statement M
 joined-spec =
     tie.close
-    (tie.spec
-    Inv-loop
-    μ-loop
-    kept-of-requires
-    sub-more
-    loop-holds
-    shared-slice-read-out
-    add-out
-    array-write-out
-    add-i
-    loop-less
-    loop-again
-    returns)
+    (tie.spec Inv-loop μ-loop kept-of-requires sub-more loop-holds shared-slice-read-out add-out array-write-out add-i loop-less loop-again returns)

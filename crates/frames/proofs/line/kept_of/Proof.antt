@@ -6,12 +6,6 @@ use Rattle.frames.proofs.Spans.{least-is}
 use Rattle.frames.proofs.line.kept_of.Statement.{statement}
 use Rattle.frames.proofs.line.kept_of.Tie as tie
 
-sub-if1 : tie.Need-sub-if1
-sub-if1 c = search needs
-
-add-result : tie.Need-add-result
-add-result c = search needs
-
 returns : tie.Need-returns
 returns c = omega (arith, least-is (c .before .args .n + c .before .args .more))
 
@@ -19,4 +13,4 @@ returns-2 : tie.Need-returns-2
 returns-2 c = omega (arith, least-is (c .before .args .n + c .before .args .more))
 
 pub kept-of-spec : {M : Type 1} → statement M
-kept-of-spec = tie.close (tie.spec sub-if1 add-result returns returns-2)
+kept-of-spec = tie.close (tie.spec (λ c. search needs) (λ c. search needs) returns returns-2)

@@ -4,21 +4,12 @@ use Rattle.frames.proofs.Turns.{answering}
 use Rattle.frames.proofs.stream.answer.Statement.{statement}
 use Rattle.frames.proofs.stream.answer.Tie as tie
 
-step-requires : tie.Need-step-requires
-step-requires c κs = search needs
-
-setting-of-requires : tie.Need-setting-of-requires
-setting-of-requires c κs = search needs
-
-put-reply-line-requires : tie.Need-put-reply-line-requires
-put-reply-line-requires c κs = search needs
-
-same-length : tie.Need-same-length
-same-length c = search needs
-
 returns : tie.Need-returns
-returns c = answering (c .before .before .before .before .before .before .before .before .step .ensures) (c .before .before .before .before .setting-of .ensures) (c .before .before .put-reply-line .ensures)
+returns c =
+    let at-setting-of = c .before .before .before .before in
+    let at-step = at-setting-of .before .before .before .before in
+    answering (at-step .step .ensures) (at-setting-of .setting-of .ensures) (c .before .before .put-reply-line .ensures)
 
 pub answer-spec : {M : Type 1} → statement M
 answer-spec =
-    tie.close (tie.spec step-requires setting-of-requires put-reply-line-requires same-length returns)
+    tie.close (tie.spec (λ c κs. search needs) (λ c κs. search needs) (λ c κs. search needs) (λ c. search needs) returns)

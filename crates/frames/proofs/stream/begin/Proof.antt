@@ -5,12 +5,9 @@ use borrow.Author.Needs.{needs}
 use Rattle.frames.proofs.stream.begin.Statement.{statement}
 use Rattle.frames.proofs.stream.begin.Tie as tie
 
-begin-requires : tie.Need-begin-requires
-begin-requires c κs = search needs
-
 returns : tie.Need-returns
 unfolding fresh
 returns c = (rw (c .begin .ensures), whole-input)
 
 pub begin-spec : {M : Type 1} → statement M
-begin-spec = tie.close (tie.spec begin-requires returns)
+begin-spec = tie.close (tie.spec (λ c κs. search needs) returns)

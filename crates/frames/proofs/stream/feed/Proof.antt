@@ -6,77 +6,38 @@ use Rattle.frames.proofs.Feeds.{going-feeds, used-within, next-within, 
 use Rattle.frames.proofs.stream.feed.Statement.{statement}
 use Rattle.frames.proofs.stream.feed.Tie as tie
 
-lines-requires : tie.Need-lines-requires
-lines-requires c κs = search needs
-
-same-length : tie.Need-same-length
-same-length c = search needs
-
 returns : tie.Need-returns
 returns c = (c .before .before .lines .ensures, refl)
 
-go-on-requires : tie.Need-go-on-requires
-go-on-requires c κs = search needs
-
-same-length-2 : tie.Need-same-length-2
-same-length-2 c = search needs
-
 returns-2 : tie.Need-returns-2
-returns-2 c = (going-feeds (c .before .before .before .before .before .go-on .ensures) (omega arith), refl)
-
-sub-lines : tie.Need-sub-lines
-sub-lines c = search needs
-
-part-lines-start : tie.Need-part-lines-start
-part-lines-start c = search needs
-
-part-lines-end : tie.Need-part-lines-end
-part-lines-end c = search needs
-
-sub-lines-2 : tie.Need-sub-lines-2
-sub-lines-2 c = search needs
-
-part-lines-start-2 : tie.Need-part-lines-start-2
-part-lines-start-2 c = search needs
-
-part-lines-end-2 : tie.Need-part-lines-end-2
-part-lines-end-2 c = search needs
-
-lines-requires-2 : tie.Need-lines-requires-2
-lines-requires-2 c κs = search needs
+returns-2 c =
+    let at-go-on = c .before .before .before .before .before in
+    (going-feeds (at-go-on .go-on .ensures) (omega arith), refl)
 
 add-used : tie.Need-add-used
-add-used c = omega (arith, c .before .before .before .before .before .before .before .before .before .before .before .before .before .before .before .before .before .before .good .1 .0 .0, used-within (c .before .before .before .before .before .before .before .before .before .before .before .before .go-on .ensures) (c .before .before .before .before .lines2 .ensures))
+add-used c =
+    let at-lines2 = c .before .before .before .before in
+    let at-go-on = at-lines2 .before .before .before .before .before .before .before .before in
+    let at-good = at-go-on .before .before .before .before .before .before in
+    omega (arith, at-good .good .1 .0 .0, used-within (at-go-on .go-on .ensures) (at-lines2 .lines2 .ensures))
 
 add-next : tie.Need-add-next
-add-next c = omega (arith, c .before .before .before .before .before .before .before .before .before .before .before .before .before .before .before .before .before .before .before .good .1 .1 .0 .0, next-within (c .before .before .before .before .before .before .before .before .before .before .before .before .before .go-on .ensures) (c .before .before .before .before .before .lines2 .ensures))
-
-same-length-3 : tie.Need-same-length-3
-same-length-3 c = search needs
+add-next c =
+    let at-lines2 = c .before .before .before .before .before in
+    let at-go-on = at-lines2 .before .before .before .before .before .before .before .before in
+    let at-good = at-go-on .before .before .before .before .before .before in
+    omega (arith, at-good .good .1 .1 .0 .0, next-within (at-go-on .go-on .ensures) (at-lines2 .lines2 .ensures))
 
 returns-3 : tie.Need-returns-3
 returns-3 c =
-    let went = c .before .before .before .before .before .before .before .before .before .before .before .before .before .go-on .ensures in
-    (feeding-then went (c .before .before .before .before .before .lines2 .ensures), refl)
+    let at-lines2 = c .before .before .before .before .before in
+    let at-go-on = at-lines2 .before .before .before .before .before .before .before .before in
+    let went = at-go-on .go-on .ensures in
+    (feeding-then went (at-lines2 .lines2 .ensures), refl)
 
 pub feed-spec : {M : Type 1} → statement M
 feed-spec =
     tie.close
-    (tie.spec
-    lines-requires
-    same-length
-    returns
-    go-on-requires
-    same-length-2
-    returns-2
-    sub-lines
-    part-lines-start
-    part-lines-end
-    sub-lines-2
-    part-lines-start-2
-    part-lines-end-2
-    lines-requires-2
-    add-used
-    add-next
-    same-length-3
-    returns-3)
+    (tie.spec (λ c κs. search needs) (λ c. search needs) returns (λ c κs. search needs) (λ c. search needs) returns-2 (λ c. search needs)
+    (λ c. search needs) (λ c. search needs) (λ c. search needs) (λ c. search needs) (λ c. search needs) (λ c κs. search needs) add-used add-next
+    (λ c. search needs) returns-3)

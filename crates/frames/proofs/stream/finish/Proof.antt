@@ -9,9 +9,6 @@ use borrow.Author.Needs.{needs}
 use Rattle.frames.proofs.stream.finish.Statement.{statement}
 use Rattle.frames.proofs.stream.finish.Tie as tie
 
-kept-requires : tie.Need-kept-requires
-kept-requires c κs = search needs
-
 returns : tie.Need-returns
 returns c =
     let a = c .before .before .before .args in
@@ -23,41 +20,33 @@ returns-2 c = nothing-done (c .if2 .taken)
 
 array-share-prefix-line : tie.Need-array-share-prefix-line
 array-share-prefix-line c =
-    let a = c .before .before .before .before .before .before .args in
+    let at-kept = c .before .before .before .before in
+    let entry = at-kept .before .before in
+    let a = entry .args in
     let l : length (a .s .line) ≡ kept = search needs in
-    omega (arith, l, c .before .before .before .before .kept .ensures, least-fits (a .s .n))
+    omega (arith, l, at-kept .kept .ensures, least-fits (a .s .n))
 
 slice-aggregate-read : tie.Need-slice-aggregate-read
 slice-aggregate-read c =
-    let a = c .before .before .before .before .before .before .before .args in
+    let at-kept = c .before .before .before .before .before in
+    let entry = at-kept .before .before in
+    let a = entry .args in
     let l : length (a .s .line) ≡ kept = search needs in
-    sym (length-take-le _ _ (omega (arith, l, c .before .before .before .before .before .kept .ensures, least-fits (a .s .n))))
-
-read-requires : tie.Need-read-requires
-read-requires c κs = search needs
-
-answer-requires : tie.Need-answer-requires
-answer-requires c κs = search needs
-
-same-length : tie.Need-same-length
-same-length c = search needs
+    sym (length-take-le _ _ (omega (arith, l, at-kept .kept .ensures, least-fits (a .s .n))))
 
 returns-3 : tie.Need-returns-3
 returns-3 c =
-    let a = c .before .before .before .before .before .before .before .before .before .before .before .before .args in
+    let at-read = c .before .before .before .before in
+    let at-if2 = at-read .before .before .before .before in
+    let at-if1 = at-if2 .before in
+    let at-kept = at-if1 .before in
+    let entry = at-kept .before .before in
+    let a = entry .args in
     let l : length (a .s .line) ≡ kept = search needs in
-    finished-line l (c .before .before .before .before .before .before .before .before .before .before .kept .ensures) (c .before .before .before .before .before .before .before .before .before .if1 .left) (c .before .before .before .before .before .before .before .before .if2 .left) (c .before .before .before .before .read .ensures .0) (c .before .before .answer .ensures)
+    finished-line l (at-kept .kept .ensures) (at-if1 .if1 .left) (at-if2 .if2 .left) (at-read .read .ensures .0) (c .before .before .answer .ensures)
 
 pub finish-spec : {M : Type 1} → statement M
 finish-spec =
     tie.close
-    (tie.spec
-    kept-requires
-    returns
-    returns-2
-    array-share-prefix-line
-    slice-aggregate-read
-    read-requires
-    answer-requires
-    same-length
-    returns-3)
+    (tie.spec (λ c κs. search needs) returns returns-2 array-share-prefix-line slice-aggregate-read (λ c κs. search needs) (λ c κs. search needs)
+    (λ c. search needs) returns-3)

@@ -32,16 +32,11 @@ Inv-loop s xs page₀ started₀ setting₀ entries₀ ids₀ at₀ i₀ page st
 abbrev μ-loop : tie.MeasureT-loop
 μ-loop s xs page₀ started₀ setting₀ entries₀ ids₀ at₀ i₀ page started setting entries ids at i = length xs - i
 
-setting-of-requires : tie.Need-setting-of-requires Inv-loop μ-loop
-setting-of-requires c κs = tt
-
-identities-requires : tie.Need-identities-requires Inv-loop μ-loop
-identities-requires c κs = tt
-
 loop-holds : tie.Need-loop-holds Inv-loop μ-loop
 unfolding settingOf
 loop-holds c =
-    let a = c .before .before .before .before .before .before .before .before .args in (
+    let entry = c .before .before .before .before .before .before .before .before in
+    let a = entry .args in (
       under-own _ (a .s .session .board .targets) _ (c .identities .ensures .1) (rw (c .before .before .setting-of .ensures)) (c .identities .ensures .0),
       opening-none (a .xs .now) (a .page .now) _,
       ids-long (a .s .session .board .targets) _ (c .identities .ensures .1) (c .identities .ensures .0),
@@ -52,9 +47,6 @@ line-at-requires c κs = c .before .loop .inv .1 .within
 
 sub-waits : tie.Need-sub-waits Inv-loop μ-loop
 sub-waits c = let w = c .before .before .loop .inv .1 .answers .wrote in omega (arith, w .within, w .length-is)
-
-waits-requires : tie.Need-waits-requires Inv-loop μ-loop
-waits-requires c κs = tt
 
 sub-read-known : tie.Need-sub-read-known Inv-loop μ-loop
 sub-read-known c = c .before .before .line-at .ensures .ends-at .passes .from
@@ -69,32 +61,31 @@ read-known-requires : tie.Need-read-known-requires Inv-loop μ-loop
 read-known-requires c κs = c .before .before .before .line-at .ensures .digits-are
 
 slice-aggregate-look : tie.Need-slice-aggregate-look Inv-loop μ-loop
-slice-aggregate-look c = sym (c .before .before .before .before .before .before .before .loop .inv .2)
-
-look-requires : tie.Need-look-requires Inv-loop μ-loop
-look-requires c κs = tt
+slice-aggregate-look c =
+    let turn = c .before .before .before .before .before .before .before in
+    sym (turn .loop .inv .2)
 
 -- a line that does not wait ends in the piece, and any reply to it fits
-goes : (c : tie.Else1 Inv-loop μ-loop) → (c .before .before .line-at .result .end < length (c .before .before .before .before .before .before .before .before .before .before .before .before .before .args .xs .now))
+goes : (c : tie.Else1 Inv-loop μ-loop)
+    → (c .before .before .line-at .result .end < length
+    (c .before .before .before .before .before .before .before .before .before .before .before .before .before .args .xs .now))
     × (c .before .before .before .before .loop .at + room ≤ length (c .before .before .before .before .loop .page))
 goes c =
+    let turn = c .before .before .before .before in
     let g = waits-not _ _ _ (sym (c .before .waits .ensures) ∙ c .if1 .left) in
-    let w = c .before .before .before .before .loop .inv .1 .answers .wrote in
+    let w = turn .loop .inv .1 .answers .wrote in
     (g .0, omega (arith, g .1, w .within, w .length-is))
-
-enum-known-reply : tie.Need-enum-known-reply Inv-loop μ-loop
-enum-known-reply c = search needs
 
 put-reply-line-requires : tie.Need-put-reply-line-requires Inv-loop μ-loop
 put-reply-line-requires c κs = goes (c .before .before .before .before .before .before .before .before) .1
 
-enum-known-kind : tie.Need-enum-known-kind Inv-loop μ-loop
-enum-known-kind c = search needs
-
 -- what the quick look tells is right
-looked : (c : tie.After-look Inv-loop μ-loop) → let l = c .before .before .before .before .before .before .before .before .loop in Quickly (l .started) (l .setting) (l .ids) (c .before .before .read-known .result) (c .look .result)
+looked : (c : tie.After-look Inv-loop μ-loop)
+    → let l = c .before .before .before .before .before .before .before .before .loop in Quickly (l .started) (l .setting) (l .ids)
+    (c .before .before .read-known .result) (c .look .result)
 looked c =
-    let l = c .before .before .before .before .before .before .before .before .loop in
+    let turn = c .before .before .before .before .before .before .before .before in
+    let l = turn .loop in
     let f = c .before .before .read-known .result in
     subst (Quickly (l .started) (l .setting) (l .ids) f) (sym (c .look .ensures .0)) (quickly (l .started) (l .setting) (l .ids) f)
 
@@ -102,8 +93,10 @@ looked c =
 place-below : (c : tie.After-known-told2 Inv-loop μ-loop) → c .before .kind .given .0 .1 .0 < mostTargets
 unfolding Quickly
 place-below c =
-    let l = c .before .before .before .before .before .before .before .before .before .before .before .loop in
-    let f = c .before .before .before .before .before .read-known .result in
+    let at-read-known = c .before .before .before .before .before in
+    let turn = at-read-known .before .before .before .before .before .before in
+    let l = turn .loop in
+    let f = at-read-known .read-known .result in
     subst (Quickly (l .started) (l .setting) (l .ids) f) (c .before .kind .given .1) (looked (c .before .before .before)) (l .entries) (l .inv .0) .0
 
 mul-entries : tie.Need-mul-entries Inv-loop μ-loop
@@ -115,32 +108,21 @@ array-set-from-entries c = place-below c
 put-reply-line-requires-2 : tie.Need-put-reply-line-requires-2 Inv-loop μ-loop
 put-reply-line-requires-2 c κs = goes (c .before .before .before .before .before .before .before .before) .1
 
-enum-known-kind-2 : tie.Need-enum-known-kind-2 Inv-loop μ-loop
-enum-known-kind-2 c = search needs
-
-bared-requires : tie.Need-bared-requires Inv-loop μ-loop
-bared-requires c κs = tt
-
 put-reply-line-requires-3 : tie.Need-put-reply-line-requires-3 Inv-loop μ-loop
 put-reply-line-requires-3 c κs = goes (c .before .before .before .before .before .before .before .before .before) .1
-
-enum-told : tie.Need-enum-told Inv-loop μ-loop
-enum-told c = search needs
-
-session-of-requires : tie.Need-session-of-requires Inv-loop μ-loop
-session-of-requires c κs = tt
 
 answer-requires : tie.Need-answer-requires Inv-loop μ-loop
 answer-requires c κs = goes (c .before .before .before .before .before .before .before .before) .1
 
-identities-requires-2 : tie.Need-identities-requires-2 Inv-loop μ-loop
-identities-requires-2 c κs = tt
-
 add-i : tie.Need-add-i Inv-loop μ-loop
-add-i c = omega (arith, c .before .before .before .before .before .before .before .before .before .before .before .before .before .before .before .before .before .before .good .1 .0 .0, goes (c .before .before .before .before .before) .0)
+add-i c =
+    let at-good = c .before .before .before .before .before .before .before .before .before .before .before .before .before .before .before .before .before .before in
+    omega (arith, at-good .good .1 .0 .0, goes (c .before .before .before .before .before) .0)
 
 loop-less : tie.Need-loop-less Inv-loop μ-loop
-loop-less c = let p = c .before .before .before .before .before .before .before .line-at .ensures .ends-at .passes in omega (arith, goes (c .before .before .before .before .before) .0, p .from)
+loop-less c =
+    let at-line-at = c .before .before .before .before .before .before .before in
+    let p = at-line-at .line-at .ensures .ends-at .passes in omega (arith, goes (c .before .before .before .before .before) .0, p .from)
 
 -- what the loop keeps, of parts that are equal
 same-parts : {m : Model} {xs page₀ page page′ ids ids′ : List ℕ} {b b′ : Bool} {s s′ : Setting} {es es′ : List Target} {at at′ i : ℕ}
@@ -152,8 +134,10 @@ same-parts p b s e i a u v k = rw (p, b, s, e, i, a) (u, v, k)
 loop-again : tie.Need-loop-again Inv-loop μ-loop
 unfolding Quickly
 loop-again c =
-    let l = c .before .before .before .before .before .before .before .before .before .loop in
-    let n = c .before .before .before .before .before .before .before .line-at .ensures .ends-at in
+    let at-line-at = c .before .before .before .before .before .before .before in
+    let turn = at-line-at .before .before in
+    let l = turn .loop in
+    let n = at-line-at .line-at .ensures .ends-at in
     let t = goes (c .before .before .before .before .before) .0 in
     let e = n .ends t in
     let f = c .before .before .before .read-known .ensures in
@@ -197,30 +181,38 @@ part-joined-end c = let p = c .before .end-of-line .ensures .passes in omega (ar
 joined-requires : tie.Need-joined-requires Inv-loop μ-loop
 joined-requires c κs = omega arith
 
-session-of-requires-2 : tie.Need-session-of-requires-2 Inv-loop μ-loop
-session-of-requires-2 c κs = tt
-
 sub-kept-of : tie.Need-sub-kept-of Inv-loop μ-loop
-sub-kept-of c = c .before .before .before .before .end-of-line .ensures .passes .from
+sub-kept-of c =
+    let at-end-of-line = c .before .before .before .before in
+    at-end-of-line .end-of-line .ensures .passes .from
 
 kept-of-requires : tie.Need-kept-of-requires Inv-loop μ-loop
 kept-of-requires c κs = omega arith
 
 same-length : tie.Need-same-length Inv-loop μ-loop
-same-length c = c .before .before .before .before .before .before .before .loop .inv .1 .answers .wrote .length-is
+same-length c =
+    let turn = c .before .before .before .before .before .before .before in
+    turn .loop .inv .1 .answers .wrote .length-is
 
 returns : tie.Need-returns Inv-loop μ-loop
 returns c =
-    let a = c .before .before .before .before .before .before .before .before .before .before .before .before .before .before .before .before .args in
-    let l = c .before .before .before .before .before .before .before .loop in
-    let e = c .before .before .before .before .before .end-of-line in
-    let v = passed-fresh (a .s) (c .before .before .before .before .before .before .before .before .before .before .before .before .before .before .before .before .pre) (passed-from (session-parts (a .s .session) _ (c .before .before .before .before .before .before .before .before .before .before .setting-of .ensures)) (passed-bytes (l .inv .1) (e .ensures .passes))) in
+    let at-end-of-line = c .before .before .before .before .before in
+    let at-loop-test = at-end-of-line .before in
+    let turn = at-loop-test .before in
+    let at-setting-of = turn .before .before .before in
+    let entry = at-setting-of .before .before .before .before .before .before in
+    let a = entry .args in
+    let l = turn .loop in
+    let e = at-end-of-line .end-of-line in
+    let v = passed-fresh (a .s) (entry .pre)
+    (passed-from (session-parts (a .s .session) _ (at-setting-of .setting-of .ensures)) (passed-bytes (l .inv .1) (e .ensures .passes))) in
     let k : length (take (e .result - l .i) (drop (l .i) (a .xs .now))) ≡ e .result - l .i =
     length-take-le _ _ (omega (arith, length-drop (l .i) (a .xs .now), e .ensures .passes .within)) in
-    let t = ap (λ (m : ℕ). take m (c .before .before .joined .result)) (c .kept-of .ensures ∙ ap (λ (m : ℕ). least (0 + m)) (sym k)) ∙ c .before .before .joined .ensures .text in
+    let t = ap (λ (m : ℕ). take m (c .before .before .joined .result)) (c .kept-of .ensures ∙ ap (λ (m : ℕ). least (0 + m)) (sym k))
+    ∙ c .before .before .joined .ensures .text in
     let w = l .inv .1 .answers .wrote in
     let stops : e .result < length (a .xs .now) → (getD (a .xs .now) (e .result) 0 ≡ newline) × (length (a .page .now) < l .at + room) =
-    λ h. elim (c .before .before .before .before .before .before .loop-test .came) [
+    λ h. elim (at-loop-test .loop-test .came) [
       | inl z ↦ let y : ⊥ = omega (arith, e .ensures .passes .from) in absurd y
       | inr z ↦
           let d = ends-same (a .xs .now) (e .ensures) (z .1 .ensures .ends-at) in
@@ -231,44 +223,8 @@ returns c =
 pub lines-spec : {M : Type 1} → statement M
 lines-spec =
     tie.close
-    (tie.spec
-    Inv-loop
-    μ-loop
-    setting-of-requires
-    identities-requires
-    loop-holds
-    line-at-requires
-    sub-waits
-    waits-requires
-    sub-read-known
-    part-read-known-start
-    part-read-known-end
-    read-known-requires
-    slice-aggregate-look
-    look-requires
-    enum-known-reply
-    put-reply-line-requires
-    enum-known-kind
-    mul-entries
-    array-set-from-entries
-    put-reply-line-requires-2
-    enum-known-kind-2
-    bared-requires
-    put-reply-line-requires-3
-    enum-told
-    session-of-requires
-    answer-requires
-    identities-requires-2
-    add-i
-    loop-less
-    loop-again
-    end-of-line-requires
-    sub-joined
-    part-joined-start
-    part-joined-end
-    joined-requires
-    session-of-requires-2
-    sub-kept-of
-    kept-of-requires
-    same-length
-    returns)
+    (tie.spec Inv-loop μ-loop (λ c κs. tt) (λ c κs. tt) loop-holds line-at-requires sub-waits (λ c κs. tt) sub-read-known part-read-known-start
+    part-read-known-end read-known-requires slice-aggregate-look (λ c κs. tt) (λ c. search needs) put-reply-line-requires (λ c. search needs)
+    mul-entries array-set-from-entries put-reply-line-requires-2 (λ c. search needs) (λ c κs. tt) put-reply-line-requires-3 (λ c. search needs)
+    (λ c κs. tt) answer-requires (λ c κs. tt) add-i loop-less loop-again end-of-line-requires sub-joined part-joined-start part-joined-end
+    joined-requires (λ c κs. tt) sub-kept-of kept-of-requires same-length returns)

@@ -15,9 +15,19 @@ south-pole c = rw (sym (c .before .before .before .eq .ensures) ∙ c .before .b
 other : tie.Need-returns-3
 unfolding latlongToNvector
 other c =
+    let at-cos = c .before .before .before .before in
     let k = c .before .before .before .before .before in
     let j = k .before .before in
-    rw (sym (j .before .eq .ensures) ∙ j .if1 .left, sym (k .before .eq2 .ensures) ∙ k .if2 .left, c .new .ensures, c .before .sin2 .ensures, c .before .before .sin .ensures, c .before .before .before .cos2 .ensures, c .before .before .before .before .cos .ensures)
+    rw (
+      sym (j .before .eq .ensures) ∙ j .if1 .left,
+      sym (k .before .eq2 .ensures)
+          ∙ k .if2 .left,
+      c .new .ensures,
+      c .before .sin2 .ensures,
+      c .before .before .sin .ensures,
+      c .before .before .before .cos2 .ensures,
+      at-cos .cos .ensures,
+    )
 
 pub latlong-to-nvector-spec : {M : Type 1} → statement M
 latlong-to-nvector-spec = tie.close (tie.spec (λ c κs. tt) north-pole (λ c κs. tt) south-pole (λ c κs. tt) (λ c κs. tt) (λ c κs. tt) (λ c κs. tt) (λ c κs. tt) other)

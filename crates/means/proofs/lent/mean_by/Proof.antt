@@ -12,7 +12,8 @@ one c = rw (ne-eqb (c .before .before .args .n) 0 (λ e. omega arith), eq-eqb (c
 
 more : tie.Need-returns-3
 more c =
-    let n = c .before .before .before .before .args .n in
+    let entry = c .before .before .before .before in
+    let n = entry .args .n in
     rw (c .new .ensures, c .before .new-unit .ensures, ne-eqb n 0 (λ e. omega arith), ne-eqb n 1 (λ e. omega arith))
 
 pub mean-by-spec : {M : Type 1} → statement M

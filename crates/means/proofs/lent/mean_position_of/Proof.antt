@@ -249,7 +249,8 @@ module _ {M : Type 1} (𝓤 : URA M) (H : Heap 𝓤) (A : Atoms 𝓤) (W : Given
                 (λ h. skips ! $ exec ! C Λ En (assign (place 7 []) (op2 (add unsigned) (copy (place 7 [])) (int w64 1))) (anyQ (Compared y)) $
                 assigns-last ! (bin ! (held ! 16 refl) (lit ! tt) (next-fits (y .j) here)) (from ! (stop !)) (store ! 16 refl (tt, next-fits (y .j) here)) $
                 forget ! 26 refl $ forget ! 28 refl $ forget ! 30 refl $ forget ! 32 refl $ forget ! 34 refl $
-                again ! Nearer-in In y (record { j = y .j + 1; compared = y .compared ∙ any-passed ys (y .j) none is here (sym r-is ∙ fails r h) }) (let l = here in omega arith))))
+                again ! Nearer-in In y (record { j = y .j + 1; compared = y .compared ∙ any-passed ys (y .j) none is here (sym r-is ∙ fails r h) })
+                (let l = here in omega arith))))
               where
                 z : NVector
                 z = entry (y .j)
@@ -326,7 +327,8 @@ module _ {M : Type 1} (𝓤 : URA M) (H : Heap 𝓤) (A : Atoms 𝓤) (W : Given
       looped : (x : Outer) → Sq W (At x) (runs C Λ En body.t-5 (atRet En Post))
       looped x = first ! $ blocks ! $ loops ! 𝓣 Nearer-out (nearer-wf (length ys) (λ x. x .i)) At turns x
 
-    walk : Is (ShrSlice (named 0) κ T.the-row) s (v ∷ []) → ent 𝓤 (onEntry 𝓤 H A this.signature (κ, tt) (q, tt) (s, tt) (v ∷ [], tt)) (WpFn 𝓤 H C Λ code.function (v ∷ []) Post)
+    walk : Is (ShrSlice (named 0) κ T.the-row) s (v ∷ [])
+        → ent 𝓤 (onEntry 𝓤 H A this.signature (κ, tt) (q, tt) (s, tt) (v ∷ [], tt)) (WpFn 𝓤 H C Λ code.function (v ∷ []) Post)
     walk is =
         qed W ((‵ (flft κ q) ⊛ ‵ ftrue) ∷ ‵ (owns (ShrSlice (named 0) κ T.the-row ∷ []) (s, tt) (v ∷ [], tt)) ∷ []) ∵ enter ! C Λ code.function (v ∷ []) _ $
         alloc1 ! (λ l₀. alloc1 ! (λ l₁. alloc1 ! (λ l₂. alloc1 ! (λ l₃. alloc1 ! (λ l₄. alloc1 ! (λ l₅. alloc1 ! (λ l₆. alloc1 ! (λ l₇. alloc1 ! (λ l₈. alloc1 ! (λ l₉.

@@ -37,13 +37,4 @@ returns c = high-word (c .args .a) (c .args .b)
 pub high-product-spec : {M : Type 1} → statement M
 high-product-spec =
     tie.close
-    (tie.spec
-    mul-middle
-    mul-middle-2
-    add-middle
-    mul-carried
-    add-carried
-    mul-result
-    add-result
-    add-result-2
-    returns)
+    (tie.spec mul-middle mul-middle-2 add-middle mul-carried add-carried mul-result add-result add-result-2 returns)

@@ -16,14 +16,8 @@ mul-wrapping-add-u64 c = let p = products c in omega arith
 mul-wrapping-add-u64-2 : tie.Need-mul-wrapping-add-u64-2
 mul-wrapping-add-u64-2 c = let p = products c in omega arith
 
-wrapping-add-u64-requires : tie.Need-wrapping-add-u64-requires
-wrapping-add-u64-requires c κs = search needs
-
 mul-wrapping-add-u64-3 : tie.Need-mul-wrapping-add-u64-3
 mul-wrapping-add-u64-3 c = let p = products (c .before) in omega arith
-
-wrapping-add-u64-requires-2 : tie.Need-wrapping-add-u64-requires-2
-wrapping-add-u64-requires-2 c κs = search needs
 
 returns : tie.Need-returns
 returns c =
@@ -34,10 +28,4 @@ returns c =
 pub low-product-spec : {M : Type 1} → statement M
 low-product-spec =
     tie.close
-    (tie.spec
-    mul-wrapping-add-u64
-    mul-wrapping-add-u64-2
-    wrapping-add-u64-requires
-    mul-wrapping-add-u64-3
-    wrapping-add-u64-requires-2
-    returns)
+    (tie.spec mul-wrapping-add-u64 mul-wrapping-add-u64-2 (λ c κs. search needs) mul-wrapping-add-u64-3 (λ c κs. search needs) returns)

@@ -19,9 +19,6 @@ mul-number-at c = omega arith
 add-number-at : tie.Need-add-number-at Inv-loop μ-loop
 add-number-at c = omega arith
 
-number-at-requires : tie.Need-number-at-requires Inv-loop μ-loop
-number-at-requires c κs = tt
-
 mul-args : tie.Need-mul-args Inv-loop μ-loop
 mul-args c = omega arith
 
@@ -37,22 +34,7 @@ loop-less c = omega arith
 loop-again : tie.Need-loop-again Inv-loop μ-loop
 loop-again c = omega arith
 
-returns : tie.Need-returns Inv-loop μ-loop
-returns c = tt
-
 pub arguments-spec : {M : Type 1} → statement M
 arguments-spec =
     tie.close
-    (tie.spec
-    Inv-loop
-    μ-loop
-    loop-holds
-    mul-number-at
-    add-number-at
-    number-at-requires
-    mul-args
-    array-write-args
-    add-k
-    loop-less
-    loop-again
-    returns)
+    (tie.spec Inv-loop μ-loop loop-holds mul-number-at add-number-at (λ c κs. tt) mul-args array-write-args add-k loop-less loop-again (λ c. tt))

@@ -17,12 +17,6 @@ loop-holds c = omega arith
 shared-slice-read-stands : tie.Need-shared-slice-read-stands Inv-loop μ-loop
 shared-slice-read-stands c = omega arith
 
-stands-requires : tie.Need-stands-requires Inv-loop μ-loop
-stands-requires c κs = tt
-
-returns : tie.Need-returns Inv-loop μ-loop
-returns c = tt
-
 add-i : tie.Need-add-i Inv-loop μ-loop
 add-i c = omega arith
 
@@ -32,20 +26,7 @@ loop-less c = omega arith
 loop-again : tie.Need-loop-again Inv-loop μ-loop
 loop-again c = omega arith
 
-returns-2 : tie.Need-returns-2 Inv-loop μ-loop
-returns-2 c = tt
-
 pub is-laid-out-spec : {M : Type 1} → statement M
 is-laid-out-spec =
     tie.close
-    (tie.spec
-    Inv-loop
-    μ-loop
-    loop-holds
-    shared-slice-read-stands
-    stands-requires
-    returns
-    add-i
-    loop-less
-    loop-again
-    returns-2)
+    (tie.spec Inv-loop μ-loop loop-holds shared-slice-read-stands (λ c κs. tt) (λ c. tt) add-i loop-less loop-again (λ c. tt))

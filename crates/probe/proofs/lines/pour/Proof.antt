@@ -21,20 +21,8 @@ shared-slice-read-b c = omega arith
 add-i : tie.Need-add-i Inv-loop μ-loop
 add-i c = omega arith
 
-is-full-requires : tie.Need-is-full-requires Inv-loop μ-loop
-is-full-requires c κs = tt
-
-flush-requires : tie.Need-flush-requires Inv-loop μ-loop
-flush-requires c κs = tt
-
 same-length : tie.Need-same-length Inv-loop μ-loop
 same-length c = omega arith
-
-returns : tie.Need-returns Inv-loop μ-loop
-returns c = tt
-
-answer-requires : tie.Need-answer-requires Inv-loop μ-loop
-answer-requires c κs = tt
 
 loop-less : tie.Need-loop-less Inv-loop μ-loop
 loop-less c = omega arith
@@ -60,37 +48,11 @@ loop-less-3 c = omega arith
 loop-again-3 : tie.Need-loop-again-3 Inv-loop μ-loop
 loop-again-3 c = omega arith
 
-flush-requires-2 : tie.Need-flush-requires-2 Inv-loop μ-loop
-flush-requires-2 c κs = tt
-
 same-length-2 : tie.Need-same-length-2 Inv-loop μ-loop
 same-length-2 c = omega arith
-
-returns-2 : tie.Need-returns-2 Inv-loop μ-loop
-returns-2 c = tt
 
 pub pour-spec : {M : Type 1} → statement M
 pour-spec =
     tie.close
-    (tie.spec
-    Inv-loop
-    μ-loop
-    loop-holds
-    shared-slice-read-b
-    add-i
-    is-full-requires
-    flush-requires
-    same-length
-    returns
-    answer-requires
-    loop-less
-    loop-again
-    array-write-bytes
-    add-n
-    loop-less-2
-    loop-again-2
-    loop-less-3
-    loop-again-3
-    flush-requires-2
-    same-length-2
-    returns-2)
+    (tie.spec Inv-loop μ-loop loop-holds shared-slice-read-b add-i (λ c κs. tt) (λ c κs. tt) same-length (λ c. tt) (λ c κs. tt) loop-less loop-again
+    array-write-bytes add-n loop-less-2 loop-again-2 loop-less-3 loop-again-3 (λ c κs. tt) same-length-2 (λ c. tt))

@@ -1,4 +1,5 @@
--- `mean_of_first` meets its contract: a walk of its MIR, by hand. The six positions are lent as a slice for a lifetime that is made here; the first n are passed on, and all are taken back.
+-- `mean_of_first` meets its contract: a walk of its MIR, by hand. The six positions are lent as a slice for a lifetime that is made here; the
+-- first n are passed on, and all are taken back.
 -- All that the proof knows of `mean_position_of` is that it meets its contract. Assumes nothing.
 use mathlib.Core.Path.{_≡_, refl, sym, subst}
 use Prim.Native.Nat.{ℕ, _≤_, _<_, _^_}
@@ -18,11 +19,13 @@ use prog.Wp.{Heap, Calls, Loops, WpFn, Tables}
 use ghost.Atoms.{Atoms, sem}
 use contract.Monad.{Fun}
 use contract.Running.{givenOf, tables, tablesOf}
-use types.Kit.{Given, ‵, raw, _⊛_, ⋆, some, later, _$_, _∵_, !, qed, by, move, keep, use1, use2, split, join, pick, rewrite, fsplit, fjoin, fpick, fpack, feqL, feqI, suffices, frame, await, updating, now as at-once, show, done}
+use types.Kit.{Given, ‵, raw, _⊛_, ⋆, some, later, _$_, _∵_, !, qed, by, move, keep, use1, use2, split, join, pick, rewrite, fsplit, fjoin, fpick}
+use types.Kit.{fpack, feqL, feqI, suffices, frame, await, updating, now as at-once, show, done}
 use types.Part.{agg, whole, sub, look-in}
 use types.Share.{arr-parts}
 use types.Tokens.{lft-new, lft-end, lent-back}
-use types.Run.{look, init, forget, stop, hop, fld, from, load, lit, of-opd, addr, assigns, land, and-then, no-more, returns, enter, alloc1, alloc0, params1, pass1, pass0, free1, free0}
+use types.Run.{look, init, forget, stop, hop, fld, from, load, lit, of-opd, addr, assigns, land, and-then, no-more, returns, enter, alloc1, alloc0}
+use types.Run.{params1, pass1, pass0, free1, free0}
 use sound.WpLaws.{FmC, fmOf, WpFn-mono}
 use denote.RattleType.{RattleType, owns}
 use denote.Laws.{Is, shows}
@@ -96,7 +99,8 @@ module _ {M : Type 1} (𝓤 : URA M) (H : Heap 𝓤) (A : Atoms 𝓤) (W : Given
   exits : (r : Mean) (u : Val) → ent 𝓤 (⋆ 𝓤 H A (‵ (S.the-row .own r (u ∷ [])) ∷ [])) (Post u)
   exits r u =
       qed W (‵ (S.the-row .own r (u ∷ [])) ∷ []) ∵
-      suffices ! _ (ends-at 𝓤 H A six.ended stayed (six.clauses 𝓤 H A mem run) W ((tt, tt, tt, (xs, (n, tt)), (v ∷ [], (vint w64 n ∷ [], tt))), tt) u r (tt, (tt, tt)) (tt, (tt, tt))) $
+      suffices ! _ (ends-at 𝓤 H A six.ended stayed (six.clauses 𝓤 H A mem run) W
+      ((tt, tt, tt, (xs, (n, tt)), (v ∷ [], (vint w64 n ∷ [], tt))), tt) u r (tt, (tt, tt)) (tt, (tt, tt))) $
       nothing ! $ nothing ! $ fjoin ! $ nothing ! $ fjoin ! $ join ! $ nothing ! $ join ! $ frame ! $ done !
 
   fits : n < 2 ^ 64
@@ -123,15 +127,21 @@ module _ {M : Type 1} (𝓤 : URA M) (H : Heap 𝓤) (A : Atoms 𝓤) (W : Given
 
     goes-mean : (γ : GName) → ent 𝓤 (sep 𝓤 (sem 𝓤 H A (flft κ fullShare)) (sem 𝓤 H A (Own γ (take n xs) n))) (MeanOf 𝓤 H A mem run .pre (to-mean γ))
     goes-mean γ =
-        qed W (‵ (flft κ fullShare) ∷ ‵ (Own γ (take n xs) n) ∷ []) ∵ nothing ! $ move ! (1 ∷ 0 ∷ []) $ join ! $ nothing ! $ move ! (2 ∷ 0 ∷ []) $ fjoin ! $ move ! (1 ∷ 0 ∷ []) $ join ! $ frame ! $ done !
+        qed W (‵ (flft κ fullShare) ∷ ‵ (Own γ (take n xs) n) ∷ []) ∵ nothing ! $ move ! (1 ∷ 0 ∷ []) $ join ! $ nothing ! $ move !
+        (2 ∷ 0 ∷ []) $ fjoin ! $ move ! (1 ∷ 0 ∷ []) $ join ! $ frame ! $ done !
 
     -- the first n of the slice
-    first : (γ : GName) → ent 𝓤 (sep 𝓤 (sem 𝓤 H A (Own γ xs (length xs))) (A .lft κ fullShare)) (H .⇛ (ex 𝓤 (λ (γ₁ : GName). sep 𝓤 (sem 𝓤 H A (Own γ₁ (take n xs) (length (take n xs)))) (A .lft κ fullShare))))
+    first : (γ : GName)
+        → ent 𝓤 (sep 𝓤 (sem 𝓤 H A (Own γ xs (length xs))) (A .lft κ fullShare))
+        (H .⇛ (ex 𝓤 (λ (γ₁ : GName). sep 𝓤 (sem 𝓤 H A (Own γ₁ (take n xs) (length (take n xs)))) (A .lft κ fullShare))))
     first γ =
         qed W (‵ (Own γ xs (length xs)) ∷ ‵ (flft κ fullShare) ∷ []) ∵ updating ! $ fsplit ! $ pureL ! (at-slice T.the-row (s γ xs) (sliceVal (b, 0) (length xs) ∷ [])) (λ g.
         pureI ! (room T.the-row (length xs)) (tt, tt) (g .1) $ fjoin ! $
         use2 W (later (some (λ (γ₁ : GName). ‵ (Bare γ₁ (take n xs)) ⊛ ‵ (flft κ fullShare))))
-        (shs-prefix-same 𝓤 H A W T.the-row κ fullShare b (λ ys c o. slice-halves 𝓤 H A W T.the-row (Is T.the-row) (shows 𝓤 H A T.the-row) tvals (LL.tells T.the-type T′.the-laws) (LL.copy T.the-type T′.the-copy 𝓤 H A W) (length ys) ys c o) 0 γ xs n) $ await ! tt $ pick ! (λ γ₁. split ! $ fsplit ! $ pureL ! (room T.the-row (length (take n xs))) (λ m.
+        (shs-prefix-same 𝓤 H A W T.the-row κ fullShare b
+        (λ ys c o. slice-halves 𝓤 H A W T.the-row (Is T.the-row) (shows 𝓤 H A T.the-row) tvals (LL.tells T.the-type T′.the-laws)
+        (LL.copy T.the-type T′.the-copy 𝓤 H A W) (length ys) ys c o) 0 γ xs n) $ await ! tt $ pick !
+        (λ γ₁. split ! $ fsplit ! $ pureL ! (room T.the-row (length (take n xs))) (λ m.
         pureI ! (at-slice T.the-row (s γ₁ (take n xs)) (sliceVal (b, 0) (length (take n xs)) ∷ [])) (tt, (tt, tt)) (refl, m) $ fjoin ! $ at-once ! $
         show ! (λ (γ₁ : GName). sep 𝓤 (sem 𝓤 H A (Own γ₁ (take n xs) (length (take n xs)))) (A .lft κ fullShare)) γ₁ $ done !)))
 
@@ -145,9 +155,11 @@ module _ {M : Type 1} (𝓤 : URA M) (H : Heap 𝓤) (A : Atoms 𝓤) (W : Given
         pass1 ! (init ! 12 refl typed) $ pass1 ! (init ! 10 refl (tt, record { fits = fits })) $ pass0 ! $
         assigns ! (of-opd ! (load ! (from ! (stop !)) (look ! 12 refl))) (from ! (stop !)) (init ! 8 refl typed) $
         assigns ! (addr ! (from ! (stop !))) (from ! (stop !)) (init ! 4 refl (tt, tt)) $
-        assigns ! (agg ! (and-then ! (load ! (from ! (stop !)) (look ! 4 refl)) (and-then ! (lit ! tt) (no-more !)))) (from ! (stop !)) (init ! 6 refl (tt, (tt, (record { fits = lit< tt }, tt)))) $
+        assigns ! (agg ! (and-then ! (load ! (from ! (stop !)) (look ! 4 refl)) (and-then ! (lit ! tt) (no-more !)))) (from ! (stop !))
+        (init ! 6 refl (tt, (tt, (record { fits = lit< tt }, tt)))) $
         assigns ! (addr ! (from ! (fld ! refl (hop ! (look-in ! 6 (sub ! 0 refl (whole !))) (stop !))))) (from ! (stop !)) (init ! 2 refl (tt, tt)) $
-        assigns ! (agg ! (and-then ! (load ! (from ! (stop !)) (look ! 2 refl)) (and-then ! (load ! (from ! (stop !)) (look ! 10 refl)) (no-more !)))) (from ! (stop !)) (init ! 0 refl (tt, (tt, (record { fits = fits }, tt)))) $
+        assigns ! (agg ! (and-then ! (load ! (from ! (stop !)) (look ! 2 refl)) (and-then ! (load ! (from ! (stop !)) (look ! 10 refl)) (no-more !))))
+        (from ! (stop !)) (init ! 0 refl (tt, (tt, (record { fits = fits }, tt)))) $
         -- the array in memory is its elements, which are lent, and the first n of them passed on
         move ! (17 ∷ []) $ fsplit ! $ move ! (10 ∷ []) $ use1 W (‵ (cellAt fullShare (Six .mir) (v ∷ []) l₃ 0)) (W .laws .at-raw fullShare array l₃ 0 v) $
         fjoin ! $ fpack ! (List Val) (λ us. fsep (cellAt fullShare (Six .mir) us l₃ 0) (Six .own xs us)) (v ∷ []) $
@@ -155,12 +167,15 @@ module _ {M : Type 1} (𝓤 : URA M) (H : Heap 𝓤) (A : Atoms 𝓤) (W : Given
         fsplit ! $ feqL ! (λ l. feqI ! ℕ (length xs) (length xs) refl $ fjoin ! $
         lft-new ! tt (λ α. move ! (1 ∷ []) $
         use1 W (later (some (λ (γ : GName). ‵ (Own (α ∷ []) l₃ γ xs (length xs)) ⊛ ‵ (flent (α ∷ []) (arr-parts (shares T.the-row) (length xs) .part fullShare xs l₃ 0)))))
-        (lends-shr-slice 𝓤 H A W T.the-row (named 0) (α ∷ []) fullShare xs l₃ 0 (subst (Room T.the-row) (sym l) six-room)) $ await ! tt $ pick ! (λ γ₀. split ! $ move ! (0 ∷ 2 ∷ []) $
-        use2 W (later (some (λ (γ : GName). ‵ (Own (α ∷ []) l₃ γ (take n xs) (length (take n xs))) ⊛ ‵ (flft (α ∷ []) fullShare)))) (first (α ∷ []) l₃ γ₀) $ await ! tt $ pick ! (λ γ. split ! $
+        (lends-shr-slice 𝓤 H A W T.the-row (named 0) (α ∷ []) fullShare xs l₃ 0 (subst (Room T.the-row) (sym l) six-room)) $ await ! tt $ pick !
+        (λ γ₀. split ! $ move ! (0 ∷ 2 ∷ []) $
+        use2 W (later (some (λ (γ : GName). ‵ (Own (α ∷ []) l₃ γ (take n xs) (length (take n xs))) ⊛ ‵ (flft (α ∷ []) fullShare))))
+        (first (α ∷ []) l₃ γ₀) $ await ! tt $ pick ! (λ γ. split ! $
         rewrite ! 0 (λ (m : ℕ). ‵ (Own (α ∷ []) l₃ γ (take n xs) m)) (counted l) refl $
         move ! (1 ∷ 0 ∷ []) $ use2 W (raw (MeanOf 𝓤 H A mem run .pre (to-mean (α ∷ []) l₃ γ))) (goes-mean (α ∷ []) l₃ γ) $
         calls-at ! fm (MeanOf 𝓤 H A mem run) known (to-mean (α ∷ []) l₃ γ) (and-then ! (load ! (from ! (stop !)) (look ! 3 refl)) (no-more !)) (λ u.
-        use1 W (later (some (λ (r : Mean). ((‵ (flft (α ∷ []) fullShare) ⊛ ‵ ftrue) ⊛ ‵ (S.the-row .own r (u ∷ []))) ⊛ raw (ensured 𝓤 H A mean.ended (mean.clauses 𝓤 H A mem run) (α ∷ [], tt) (s (α ∷ []) l₃ γ (take n xs), tt) tt r)))) (id⊢ 𝓤 _) $ await ! tt $ pick ! (λ r.
+        use1 W (later (some (λ (r : Mean). ((‵ (flft (α ∷ []) fullShare) ⊛ ‵ ftrue) ⊛ ‵ (S.the-row .own r (u ∷ []))) ⊛ raw
+        (ensured 𝓤 H A mean.ended (mean.clauses 𝓤 H A mem run) (α ∷ [], tt) (s (α ∷ []) l₃ γ (take n xs), tt) tt r)))) (id⊢ 𝓤 _) $ await ! tt $ pick ! (λ r.
         split ! $ split ! $ split ! $ move ! (2 ∷ []) $ peeks ! S.the-row (Is S.the-row) (shows 𝓤 H A S.the-row) r (u ∷ []) (λ ir.
         land ! (from ! (stop !)) (init ! 19 refl (EL.lawful S.the-type S′.the-laws 𝓤 H A W tt .typed r _ ir .0)) $
         -- the lifetime is over, and the array is taken back
@@ -174,13 +189,23 @@ module _ {M : Type 1} (𝓤 : URA M) (H : Heap 𝓤) (A : Atoms 𝓤) (W : Given
         move ! (10 ∷ 11 ∷ []) $ free1 ! $ move ! (8 ∷ 9 ∷ []) $ free1 ! $ move ! (6 ∷ 7 ∷ []) $ free1 ! $ move ! (4 ∷ 5 ∷ []) $ free1 ! $ free0 ! $
         keep ! (0 ∷ []) $ by ! (exits r u))))))))))))))))))
 
-module _ {M : Type 1} (𝓤 : URA M) (H : Heap 𝓤) (A : Atoms 𝓤) (W : Given 𝓤 H A) (mem : Memory → SProp 𝓤) (run : Routine → Fun 𝓤) (𝓣 : Tables 𝓤 H) (known : Triple 𝓤 (𝓣 .C #mean-position-of) (MeanOf 𝓤 H A mem run)) where
+module _ {M : Type 1} (𝓤 : URA M) (H : Heap 𝓤) (A : Atoms 𝓤) (W : Given 𝓤 H A) (mem : Memory → SProp 𝓤) (run : Routine
+    → Fun 𝓤) (𝓣 : Tables 𝓤 H) (known : Triple 𝓤 (𝓣 .C #mean-position-of) (MeanOf 𝓤 H A mem run)) where
   six-walks : Walks 𝓤 H A six.ended stayed (WpFn 𝓤 H (𝓣 .C) (𝓣 .Λ) code.function) (six.clauses 𝓤 H A mem run)
-  six-walks = walked 𝓤 H A six.ended stayed (six.clauses 𝓤 H A mem run) (WpFn 𝓤 H (𝓣 .C) (𝓣 .Λ) code.function) (λ κs. (array-vals tvals, (uint-vals w64, tt))) (λ κs. (array-tells T.the-row tvals (LL.tells T.the-type T′.the-laws) 6, (uint-tells w64, tt)))
+  six-walks =
+      walked 𝓤 H A six.ended stayed (six.clauses 𝓤 H A mem run) (WpFn 𝓤 H (𝓣 .C) (𝓣 .Λ) code.function) (λ κs. (array-vals tvals, (uint-vals w64, tt)))
+      (λ κs. (array-tells T.the-row tvals (LL.tells T.the-type T′.the-laws) 6, (uint-tells w64, tt)))
       (λ κs qs bounds a g are. needs 𝓤 (a .1 .0 ≤ 6) _ (λ few. walk 𝓤 H A W mem run (a .0) (a .1 .0) few (𝓣 .C) (𝓣 .Λ) (fmOf 𝓤 H (W .laws) 𝓣) known (are .0)))
 
   six-meets : Meets 𝓤 H A six.signature (WpFn 𝓤 H (𝓣 .C) (𝓣 .Λ) code.function) (six.spec 𝓤 H A mem run)
-  six-meets = walk-meets 𝓤 H A six.ended stayed W (goes-dropped 𝓤 H A W 0 (arrayOf (plain (λ _. T.the-row)) 6) yes (λ κs x f. refl), (goes-dropped 𝓤 H A W 0 (plain (λ _. usize)) yes (λ κs x f. refl), tt)) (six.clauses 𝓤 H A mem run) (WpFn 𝓤 H (𝓣 .C) (𝓣 .Λ) code.function) (WpFn-mono 𝓤 H (W .laws) 𝓣 code.function) six-walks
+  six-meets =
+      walk-meets 𝓤 H A six.ended stayed W (
+        goes-dropped 𝓤 H A W 0 (arrayOf (plain (λ _. T.the-row)) 6) yes (λ κs x f. refl),
+        (
+          goes-dropped 𝓤 H A W 0 (plain (λ _. usize)) yes (λ κs x f. refl),
+          tt,
+        ),
+      ) (six.clauses 𝓤 H A mem run) (WpFn 𝓤 H (𝓣 .C) (𝓣 .Λ) code.function) (WpFn-mono 𝓤 H (W .laws) 𝓣 code.function) six-walks
 
 pub mean-of-first-spec : {M : Type 1} → stated.statement M
 unfolding code.routine tablesOf

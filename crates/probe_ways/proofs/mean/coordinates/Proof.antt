@@ -13,9 +13,6 @@ abbrev μ-loop : tie.MeasureT-loop
 loop-holds : tie.Need-loop-holds Inv-loop μ-loop
 loop-holds c = omega arith
 
-float-at-requires : tie.Need-float-at-requires Inv-loop μ-loop
-float-at-requires c κs = tt
-
 mul-cs : tie.Need-mul-cs Inv-loop μ-loop
 mul-cs c = omega arith
 
@@ -31,20 +28,7 @@ loop-less c = omega arith
 loop-again : tie.Need-loop-again Inv-loop μ-loop
 loop-again c = omega arith
 
-returns : tie.Need-returns Inv-loop μ-loop
-returns c = tt
-
 pub coordinates-spec : {M : Type 1} → statement M
 coordinates-spec =
     tie.close
-    (tie.spec
-    Inv-loop
-    μ-loop
-    loop-holds
-    float-at-requires
-    mul-cs
-    array-write-cs
-    add-k
-    loop-less
-    loop-again
-    returns)
+    (tie.spec Inv-loop μ-loop loop-holds (λ c κs. tt) mul-cs array-write-cs add-k loop-less loop-again (λ c. tt))

@@ -13,12 +13,6 @@ returns c =
     let s = c .before in
     sym (ap (λ (n : ℕ). s .args .digits * 2 ^ s .args .k % n) (c .if1 .taken) ∙ shifted-out (s .args .digits) 52 (s .args .k) (omega arith))
 
-inverse-requires : tie.Need-inverse-requires
-inverse-requires c κs = search needs
-
-power-rem-requires : tie.Need-power-rem-requires
-power-rem-requires c κs = search needs
-
 product-rem-requires : tie.Need-product-rem-requires
 product-rem-requires c κs =
     let s = c .before .before .before in
@@ -33,4 +27,4 @@ returns-2 c =
 
 pub far-rem-spec : {M : Type 1} → statement M
 far-rem-spec =
-    tie.close (tie.spec returns inverse-requires power-rem-requires product-rem-requires returns-2)
+    tie.close (tie.spec returns (λ c κs. search needs) (λ c κs. search needs) product-rem-requires returns-2)

@@ -31,7 +31,8 @@ loop-holds : tie.Need-loop-holds Inv-loop μ-loop
 loop-holds c = (omega arith, c .pre .0, sym (div-eq-of-lt (c .pre .0)), sym (mod-eq-of-lt (c .pre .0)))
 
 quotient-le : (c : tie.In-loop Inv-loop μ-loop) → c .before .loop .quotient ≤ 2 ^ 44
-quotient-le c = le-trans (le-of-eq (c .before .loop .inv .2)) (small (c .before .loop .i) (c .before .before .args .m) (c .loop-test .taken) (le-of-lt (c .before .before .pre .0)))
+quotient-le c =
+    le-trans (le-of-eq (c .before .loop .inv .2)) (small (c .before .loop .i) (c .before .before .args .m) (c .loop-test .taken) (le-of-lt (c .before .before .pre .0)))
 
 mul-quotient : tie.Need-mul-quotient Inv-loop μ-loop
 mul-quotient c = let q = quotient-le c in omega arith
@@ -81,17 +82,4 @@ returns c =
 pub inverse-spec : {M : Type 1} → statement M
 inverse-spec =
     tie.close
-    (tie.spec
-    Inv-loop
-    μ-loop
-    loop-holds
-    mul-quotient
-    mul-quotient-2
-    div-quotient
-    add-quotient
-    mul-rest
-    rem-rest
-    add-i
-    loop-less
-    loop-again
-    returns)
+    (tie.spec Inv-loop μ-loop loop-holds mul-quotient mul-quotient-2 div-quotient add-quotient mul-rest rem-rest add-i loop-less loop-again returns)

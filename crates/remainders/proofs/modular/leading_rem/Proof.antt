@@ -9,14 +9,8 @@ use Rattle.remainders.proofs.Modulo.{shifted}
 use Rattle.remainders.proofs.modular.leading_rem.Statement.{statement}
 use Rattle.remainders.proofs.modular.leading_rem.Tie as tie
 
-leap-rem-requires : tie.Need-leap-rem-requires
-leap-rem-requires c κs = search needs
-
 returns : tie.Need-returns
 returns c = c .leap-rem .ensures
-
-leap-rem-requires-2 : tie.Need-leap-rem-requires-2
-leap-rem-requires-2 c κs = search needs
 
 sub-result : tie.Need-sub-result
 sub-result c = omega arith
@@ -32,16 +26,11 @@ returns-2 c =
     let s = c .before .before .before in
     let a = s .args in
     let l : a .digits * 2 ^ 52 % a .m < 2 ^ 53 = lt-of-lt-of-le (mod-lt (a .digits * 2 ^ 52) (omega arith)) (le-of-lt (s .pre .4)) in
-    ap (λ (n : ℕ). n * 2 ^ (a .k - 52) % 2 ^ 64 % a .m) (c .leap-rem2 .ensures) ∙ ap (λ (n : ℕ). n % a .m) (shl-exact 53 (a .k - 52) 64 l (omega arith)) ∙ shifted (a .digits) 52 (a .k) (a .m) (omega arith)
-
-near-rem-requires : tie.Need-near-rem-requires
-near-rem-requires c κs = search needs
+    ap (λ (n : ℕ). n * 2 ^ (a .k - 52) % 2 ^ 64 % a .m) (c .leap-rem2 .ensures)
+    ∙ ap (λ (n : ℕ). n % a .m) (shl-exact 53 (a .k - 52) 64 l (omega arith)) ∙ shifted (a .digits) 52 (a .k) (a .m) (omega arith)
 
 returns-3 : tie.Need-returns-3
 returns-3 c = c .near-rem .ensures
-
-far-rem-requires : tie.Need-far-rem-requires
-far-rem-requires c κs = search needs
 
 returns-4 : tie.Need-returns-4
 returns-4 c = c .far-rem .ensures
@@ -49,15 +38,5 @@ returns-4 c = c .far-rem .ensures
 pub leading-rem-spec : {M : Type 1} → statement M
 leading-rem-spec =
     tie.close
-    (tie.spec
-    leap-rem-requires
-    returns
-    leap-rem-requires-2
-    sub-result
-    shl-result
-    rem-result
-    returns-2
-    near-rem-requires
-    returns-3
-    far-rem-requires
-    returns-4)
+    (tie.spec (λ c κs. search needs) returns (λ c κs. search needs) sub-result shl-result rem-result returns-2 (λ c κs. search needs) returns-3
+    (λ c κs. search needs) returns-4)

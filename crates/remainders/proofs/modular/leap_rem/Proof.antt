@@ -15,8 +15,10 @@ use Rattle.remainders.proofs.modular.leap_rem.Statement.{statement}
 use Rattle.remainders.proofs.modular.leap_rem.Tie as tie
 
 -- p and r make up n * 2 ^ 43
-whole : (n p m r d : ℕ) → n < 2 ^ 62 → p < 2 ^ 105 → m < 2 ^ 53 → r < 2 * m → d < 2 ^ 13 → (r + p % 2 ^ 64) % 2 ^ 64 ≡ n * 2 ^ 43 % 2 ^ 64 → (d + p / 2 ^ 43) % 2 ^ 64 ≡ n % 2 ^ 64 → n * 2 ^ 43 ≡ p + r
-whole n p m r d nl pl ml rl dl low high = exact (n * 2 ^ 43) p (p % 2 ^ 43) (d * 2 ^ 43) r (level n p d (differ n (p / 2 ^ 43) d nl (omega arith) dl high)) (omega arith) (omega arith) (omega arith) low
+whole : (n p m r d : ℕ) → n < 2 ^ 62 → p < 2 ^ 105 → m < 2 ^ 53 → r < 2 * m → d < 2 ^ 13 → (r + p % 2 ^ 64) % 2 ^ 64 ≡ n * 2 ^ 43 % 2 ^ 64
+    → (d + p / 2 ^ 43) % 2 ^ 64 ≡ n % 2 ^ 64 → n * 2 ^ 43 ≡ p + r
+whole n p m r d nl pl ml rl dl low high =
+    exact (n * 2 ^ 43) p (p % 2 ^ 43) (d * 2 ^ 43) r (level n p d (differ n (p / 2 ^ 43) d nl (omega arith) dl high)) (omega arith) (omega arith) (omega arith) low
   where
     differ : (n h d : ℕ) → n < 2 ^ 62 → h < 2 ^ 62 → d < 2 ^ 13 → (d + h) % 2 ^ 64 ≡ n % 2 ^ 64 → d + h ≡ n
     differ n h d nl hl dl e = omega arith
@@ -34,17 +36,12 @@ lifted a k h = sym (split-shift a (k - 43) 43) ∙ ap (λ (n : ℕ). a * 2 ^ n) 
     back : (k : ℕ) → 43 ≤ k → k - 43 + 43 ≡ k
     back k h = omega arith
 
-less-once-requires : tie.Need-less-once-requires
-less-once-requires c κs = search needs
-
-float-quotient-requires : tie.Need-float-quotient-requires
-float-quotient-requires c κs = search needs
-
 -- the digits modulo m
 reduced-lt : (c : tie.After-less-once) → c .less-once .result < 2 ^ 53
 reduced-lt c = let s = c .before in lt-of-lt-of-le (rw (c .less-once .ensures) (mod-lt (s .args .digits) (omega arith))) (le-of-lt (s .pre .4))
 
-reduced : (c : tie.After-less-once) → c .less-once .result * 2 ^ c .before .args .k % c .before .args .m ≡ c .before .args .digits * 2 ^ c .before .args .k % c .before .args .m
+reduced : (c : tie.After-less-once)
+    → c .less-once .result * 2 ^ c .before .args .k % c .before .args .m ≡ c .before .args .digits * 2 ^ c .before .args .k % c .before .args .m
 reduced c =
     let s = c .before .args in
     ap (λ (n : ℕ). n * 2 ^ s .k % s .m) (c .less-once .ensures) ∙ mod-mul (s .digits) (2 ^ s .k) (s .m)
@@ -64,34 +61,9 @@ abbrev quotient : tie.Else1 → ℕ
 quotient c = toBits binary64 (c .before .float-quotient .result) % 2 ^ 52 / 2 ^ (52 - c .before .before .before .args .k)
 
 quotient-lt : (c : tie.Else1) → quotient c < 2 ^ 52
-quotient-lt c = let b = toBits binary64 (c .before .float-quotient .result) in lt-of-le-of-lt (div-le-self (b % 2 ^ 52) (2 ^ (52 - c .before .before .before .args .k))) (mod-lt b (pow-pos 52))
-
-sub-quotient : tie.Need-sub-quotient
-sub-quotient c = search needs
-
-shr-quotient : tie.Need-shr-quotient
-shr-quotient c = search needs
-
-shl-wrapping-sub-u64 : tie.Need-shl-wrapping-sub-u64
-shl-wrapping-sub-u64 c = search needs
-
-low-product-requires : tie.Need-low-product-requires
-low-product-requires c κs = search needs
-
-wrapping-sub-u64-requires : tie.Need-wrapping-sub-u64-requires
-wrapping-sub-u64-requires c κs = search needs
-
-sub-wrapping-sub-u64 : tie.Need-sub-wrapping-sub-u64
-sub-wrapping-sub-u64 c = search needs
-
-shl-wrapping-sub-u64-2 : tie.Need-shl-wrapping-sub-u64-2
-shl-wrapping-sub-u64-2 c = search needs
-
-high-product-requires : tie.Need-high-product-requires
-high-product-requires c κs = search needs
-
-wrapping-sub-u64-requires-2 : tie.Need-wrapping-sub-u64-requires-2
-wrapping-sub-u64-requires-2 c κs = search needs
+quotient-lt c =
+    let b = toBits binary64 (c .before .float-quotient .result) in lt-of-le-of-lt
+    (div-le-self (b % 2 ^ 52) (2 ^ (52 - c .before .before .before .args .k))) (mod-lt b (pow-pos 52))
 
 -- where both words were told
 abbrev start : tie.After-wrapping-sub-u642 → tie.Start
@@ -105,7 +77,8 @@ mul-if2 c = triple (start c .args .m) (start c .pre .4)
 
 -- both tests passed, the quotient and the low word make up the dividend
 made-up : (c : tie.After-wrapping-sub-u642) → c .before .before .wrapping-sub-u64 .result < 2 * start c .args .m → c .wrapping-sub-u642 .result < 2 ^ 13
-    → c .before .before .before .before .before .before .less-once .result * 2 ^ start c .args .k ≡ quotient (c .before .before .before .before) * start c .args .m + c .before .before .wrapping-sub-u64 .result
+    → c .before .before .before .before .before .before .less-once .result * 2 ^ start c .args .k ≡ quotient
+    (c .before .before .before .before) * start c .args .m + c .before .before .wrapping-sub-u64 .result
 made-up c rl dl =
     let f = c .before .before .before .before in
     let s = start c in
@@ -123,18 +96,20 @@ made-up c rl dl =
     (s .pre .4)
     rl
     dl
-    (ap (λ (v : ℕ). (r + v) % 2 ^ 64) (sym (c .before .before .before .low-product .ensures)) ∙ c .before .before .wrapping-sub-u64 .ensures ∙ ap (λ (n : ℕ). n % 2 ^ 64) (sym e))
-    (ap (λ (v : ℕ). (d + v) % 2 ^ 64) (sym (c .before .high-product .ensures ∙ leads q m (lt-of-lt-of-le (quotient-lt f) (pow-mono {i = 52} {j = 54} (omega arith))) (s .pre .4))) ∙ c .wrapping-sub-u642 .ensures)
-
-less-once-requires-2 : tie.Need-less-once-requires-2
-less-once-requires-2 c κs = search needs
+    (ap (λ (v : ℕ). (r + v) % 2 ^ 64) (sym (c .before .before .before .low-product .ensures)) ∙ c .before .before .wrapping-sub-u64 .ensures
+    ∙ ap (λ (n : ℕ). n % 2 ^ 64) (sym e))
+    (ap (λ (v : ℕ). (d + v) % 2 ^ 64)
+    (sym (c .before .high-product .ensures ∙ leads q m (lt-of-lt-of-le (quotient-lt f) (pow-mono {i = 52} {j = 54} (omega arith))) (s .pre .4)))
+    ∙ c .wrapping-sub-u642 .ensures)
 
 returns-2 : tie.Need-returns-2
 returns-2 c =
     let w = c .before .before .before in
     let m = start w .args .m in
     c .less-once2 .ensures
-    ∙ sym (ap (λ (n : ℕ). n % m) (made-up w (c .before .before .if2 .taken) (ltb-true (w .wrapping-sub-u642 .result) (2 ^ 13) (c .before .if3 .taken))) ∙ mul-add-mod-self-right (quotient (w .before .before .before .before)) m (w .before .before .wrapping-sub-u64 .result))
+    ∙ sym (ap (λ (n : ℕ). n % m)
+    (made-up w (c .before .before .if2 .taken) (ltb-true (w .wrapping-sub-u642 .result) (2 ^ 13) (c .before .if3 .taken)))
+    ∙ mul-add-mod-self-right (quotient (w .before .before .before .before)) m (w .before .before .wrapping-sub-u64 .result))
     ∙ reduced (w .before .before .before .before .before .before)
 
 near-rem-requires-2 : tie.Need-near-rem-requires-2
@@ -148,23 +123,6 @@ returns-3 c = c .near-rem2 .ensures ∙ reduced (c .before .before .before .befo
 pub leap-rem-spec : {M : Type 1} → statement M
 leap-rem-spec =
     tie.close
-    (tie.spec
-    less-once-requires
-    float-quotient-requires
-    near-rem-requires
-    returns
-    float-to-bits-quotient
-    sub-quotient
-    shr-quotient
-    shl-wrapping-sub-u64
-    low-product-requires
-    wrapping-sub-u64-requires
-    sub-wrapping-sub-u64
-    shl-wrapping-sub-u64-2
-    high-product-requires
-    wrapping-sub-u64-requires-2
-    mul-if2
-    less-once-requires-2
-    returns-2
-    near-rem-requires-2
-    returns-3)
+    (tie.spec (λ c κs. search needs) (λ c κs. search needs) near-rem-requires returns float-to-bits-quotient (λ c. search needs) (λ c. search needs)
+    (λ c. search needs) (λ c κs. search needs) (λ c κs. search needs) (λ c. search needs) (λ c. search needs) (λ c κs. search needs)
+    (λ c κs. search needs) mul-if2 (λ c κs. search needs) returns-2 near-rem-requires-2 returns-3)

@@ -14,15 +14,6 @@ twice x m h l =
     let k : m ≤ x = omega arith in
     e ∙ once (x - m) m (omega arith) (omega arith) ∙ sym (mod-eq-sub-mod k)
 
-mul-if1 : tie.Need-mul-if1
-mul-if1 c = search needs
-
-mul-result : tie.Need-mul-result
-mul-result c = search needs
-
-sub-result : tie.Need-sub-result
-sub-result c = search needs
-
 returns : tie.Need-returns
 returns c = twice (c .before .args .x) (c .before .args .m) (omega arith) (c .before .pre .0)
 
@@ -33,4 +24,4 @@ returns-3 : tie.Need-returns-3
 returns-3 c = sym (mod-eq-of-lt (omega arith))
 
 pub less-twice-spec : {M : Type 1} → statement M
-less-twice-spec = tie.close (tie.spec mul-if1 mul-result sub-result returns returns-2 returns-3)
+less-twice-spec = tie.close (tie.spec (λ c. search needs) (λ c. search needs) (λ c. search needs) returns returns-2 returns-3)

@@ -50,15 +50,4 @@ returns c =
 pub near-rem-spec : {M : Type 1} → statement M
 near-rem-spec =
     tie.close
-    (tie.spec
-    Inv-loop
-    μ-loop
-    loop-holds
-    mul-rest
-    rem-rest
-    sub-left
-    loop-less
-    loop-again
-    shl-result
-    rem-result
-    returns)
+    (tie.spec Inv-loop μ-loop loop-holds mul-rest rem-rest sub-left loop-less loop-again shl-result rem-result returns)

@@ -109,19 +109,5 @@ returns c =
 pub power-rem-spec : {M : Type 1} → statement M
 power-rem-spec =
     tie.close
-    (tie.spec
-    Inv-loop
-    μ-loop
-    cast-left
-    sub-left
-    shr-power
-    shl-power
-    rem-power
-    loop-holds
-    sub-left-2
-    shr-product-rem
-    shl-product-rem
-    product-rem-requires
-    loop-less
-    loop-again
-    returns)
+    (tie.spec Inv-loop μ-loop cast-left sub-left shr-power shl-power rem-power loop-holds sub-left-2 shr-product-rem shl-product-rem
+    product-rem-requires loop-less loop-again returns)

@@ -32,21 +32,6 @@ difference a b m r al bl lead small word e = known (a * b) (quotient a b m * m) 
     known : (p q m r : ℕ) → q ≤ p → p < q + 3 * m → m < 2 ^ 53 → r < 2 ^ 64 → (r + q % 2 ^ 64) % 2 ^ 64 ≡ p % 2 ^ 64 → (p ≡ q + r) × (r < 3 * m)
     known p q m r h l s w e = let d : p ≡ q + r = omega arith in (d, omega arith)
 
-high-product-requires : tie.Need-high-product-requires
-high-product-requires c κs = search needs
-
-high-product-requires-2 : tie.Need-high-product-requires-2
-high-product-requires-2 c κs = search needs
-
-low-product-requires : tie.Need-low-product-requires
-low-product-requires c κs = search needs
-
-low-product-requires-2 : tie.Need-low-product-requires-2
-low-product-requires-2 c κs = search needs
-
-wrapping-sub-u64-requires : tie.Need-wrapping-sub-u64-requires
-wrapping-sub-u64-requires c κs = search needs
-
 abbrev start : tie.After-wrapping-sub-u64 → tie.Start
 start c = c .before .before .before .before .before
 
@@ -59,7 +44,8 @@ is-quotient c =
     let h = c .before .before .before in
     h .high-product2 .ensures ∙ ap₂ (λ (x y : ℕ). x * y / 2 ^ 64) (h .before .high-product .ensures ∙ leads (s .args .a) (s .args .b) (s .pre .0) (s .pre .1)) (s .pre .4)
 
-rest-of : (c : tie.After-wrapping-sub-u64) → (start c .args .a * start c .args .b ≡ quotient-of c * start c .args .m + c .wrapping-sub-u64 .result) × (c .wrapping-sub-u64 .result < 3 * start c .args .m)
+rest-of : (c : tie.After-wrapping-sub-u64)
+    → (start c .args .a * start c .args .b ≡ quotient-of c * start c .args .m + c .wrapping-sub-u64 .result) × (c .wrapping-sub-u64 .result < 3 * start c .args .m)
 rest-of c =
     let s = start c in
     let m = s .args .m in
@@ -80,11 +66,5 @@ returns c =
 pub product-rem-spec : {M : Type 1} → statement M
 product-rem-spec =
     tie.close
-    (tie.spec
-    high-product-requires
-    high-product-requires-2
-    low-product-requires
-    low-product-requires-2
-    wrapping-sub-u64-requires
-    less-twice-requires
+    (tie.spec (λ c κs. search needs) (λ c κs. search needs) (λ c κs. search needs) (λ c κs. search needs) (λ c κs. search needs) less-twice-requires
     returns)

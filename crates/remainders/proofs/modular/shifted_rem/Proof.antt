@@ -9,18 +9,6 @@ use Rattle.patterns.proofs.Leading.{zeros, zeros-in, shift-exact, shift-lt, shi
 use Rattle.remainders.proofs.modular.shifted_rem.Statement.{statement}
 use Rattle.remainders.proofs.modular.shifted_rem.Tie as tie
 
-near-rem-requires : tie.Need-near-rem-requires
-near-rem-requires c κs = search needs
-
-returns : tie.Need-returns
-returns c = search needs
-
-leading-rem-requires : tie.Need-leading-rem-requires
-leading-rem-requires c κs = search needs
-
-returns-2 : tie.Need-returns-2
-returns-2 c = search needs
-
 -- the free places of m
 abbrev room : tie.Else2 → ℕ
 room c = zeros (c .before .before .args .m) - 11
@@ -61,20 +49,11 @@ returns-3 : tie.Need-returns-3
 returns-3 c =
     let s = c .before .before .before in
     let j = room (c .before) in
-    ap (λ (n : ℕ). n / 2 ^ j) (c .leading-rem2 .ensures ∙ ap (λ (n : ℕ). s .args .digits * 2 ^ (s .args .k + j) % n) (exact (c .before))) ∙ shifted-both (s .args .digits) (s .args .k) j (s .args .m) (s .pre .2)
+    ap (λ (n : ℕ). n / 2 ^ j) (c .leading-rem2 .ensures ∙ ap (λ (n : ℕ). s .args .digits * 2 ^ (s .args .k + j) % n) (exact (c .before)))
+    ∙ shifted-both (s .args .digits) (s .args .k) j (s .args .m) (s .pre .2)
 
 pub shifted-rem-spec : {M : Type 1} → statement M
 shifted-rem-spec =
     tie.close
-    (tie.spec
-    near-rem-requires
-    returns
-    leading-rem-requires
-    returns-2
-    cast-room
-    sub-room
-    add-leading-rem
-    shl-leading-rem
-    leading-rem-requires-2
-    shr-result
-    returns-3)
+    (tie.spec (λ c κs. search needs) (λ c. search needs) (λ c κs. search needs) (λ c. search needs) cast-room sub-room add-leading-rem shl-leading-rem
+    leading-rem-requires-2 shr-result returns-3)

@@ -15,33 +15,6 @@ returns : tie.Need-returns
 unfolding atCall
 returns c = rw (not-true (c .before .before .args .started) (c .if1 .taken))
 
-glance-requires : tie.Need-glance-requires
-glance-requires c κs = search needs
-
-enum-known-answer : tie.Need-enum-known-answer
-enum-known-answer c = search needs
-
-kind-of-requires : tie.Need-kind-of-requires
-kind-of-requires c κs = search needs
-
-told-requires : tie.Need-told-requires
-told-requires c κs = search needs
-
-enum-known-p : tie.Need-enum-known-p
-enum-known-p c = search needs
-
-kind-of-requires-2 : tie.Need-kind-of-requires-2
-kind-of-requires-2 c κs = search needs
-
-enum-known-after : tie.Need-enum-known-after
-enum-known-after c = search needs
-
-kind-of-requires-3 : tie.Need-kind-of-requires-3
-kind-of-requires-3 c κs = search needs
-
-enum-told : tie.Need-enum-told
-enum-told c = search needs
-
 -- the session has a board, and the glance's hint is h
 goes : (c : tie.After-glance) (k : ℕ) (h : Hint) → let a = c .before .before .before .args in
     k ≡ kindOf (a .call) → c .glance .result ≡ h → hinted k h ≡ atCall (a .started) (a .setting) (a .ids .now) (a .call)
@@ -67,18 +40,5 @@ returns-5 c = goes (c .before .before) _ _ refl (c .enum-told .given .1)
 pub at-call-spec : {M : Type 1} → statement M
 at-call-spec =
     tie.close
-    (tie.spec
-    returns
-    glance-requires
-    enum-known-answer
-    kind-of-requires
-    told-requires
-    enum-known-p
-    kind-of-requires-2
-    enum-known-after
-    kind-of-requires-3
-    enum-told
-    returns-2
-    returns-3
-    returns-4
-    returns-5)
+    (tie.spec returns (λ c κs. search needs) (λ c. search needs) (λ c κs. search needs) (λ c κs. search needs) (λ c. search needs)
+    (λ c κs. search needs) (λ c. search needs) (λ c κs. search needs) (λ c. search needs) returns-2 returns-3 returns-4 returns-5)

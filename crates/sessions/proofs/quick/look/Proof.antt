@@ -6,30 +6,6 @@ use Rattle.sessions.specs.Quick.{look}
 use Rattle.sessions.proofs.quick.look.Statement.{statement}
 use Rattle.sessions.proofs.quick.look.Tie as tie
 
-enum-told : tie.Need-enum-told
-enum-told c = search needs
-
-enum-known-frame : tie.Need-enum-known-frame
-enum-known-frame c = search needs
-
-at-call-requires : tie.Need-at-call-requires
-at-call-requires c κs = search needs
-
-enum-told-2 : tie.Need-enum-told-2
-enum-told-2 c = search needs
-
-enum-told-3 : tie.Need-enum-told-3
-enum-told-3 c = search needs
-
-enum-told-4 : tie.Need-enum-told-4
-enum-told-4 c = search needs
-
-total-reply-requires : tie.Need-total-reply-requires
-total-reply-requires c κs = search needs
-
-enum-told-5 : tie.Need-enum-told-5
-enum-told-5 c = search needs
-
 returns : tie.Need-returns
 unfolding look
 returns c = (rw (c .enum-told .given .1), refl)
@@ -57,18 +33,5 @@ returns-6 c = (rw (c .enum-told5 .given .1), refl)
 pub look-spec : {M : Type 1} → statement M
 look-spec =
     tie.close
-    (tie.spec
-    enum-told
-    enum-known-frame
-    at-call-requires
-    enum-told-2
-    enum-told-3
-    enum-told-4
-    total-reply-requires
-    enum-told-5
-    returns
-    returns-2
-    returns-3
-    returns-4
-    returns-5
-    returns-6)
+    (tie.spec (λ c. search needs) (λ c. search needs) (λ c κs. search needs) (λ c. search needs) (λ c. search needs) (λ c. search needs)
+    (λ c κs. search needs) (λ c. search needs) returns returns-2 returns-3 returns-4 returns-5 returns-6)

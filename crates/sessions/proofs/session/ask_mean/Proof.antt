@@ -11,15 +11,11 @@ returns : tie.Need-returns
 unfolding Replied ifStarted
 returns c = rw (closed (c .before .args .s) (not-true _ (c .if1 .taken)))
 
-mean-requires : tie.Need-mean-requires
-mean-requires c κs = search needs
-
-mean-told-requires : tie.Need-mean-told-requires
-mean-told-requires c κs = search needs
-
 returns-2 : tie.Need-returns-2
 unfolding Replied ifStarted
-returns-2 c = rw (opened (c .before .before .before .before .args .s) (not-false _ (c .before .before .before .if1 .left))) (c .mean-told .ensures ∙ ap meanTold (c .before .mean .ensures))
+returns-2 c =
+    let entry = c .before .before .before .before in
+    rw (opened (entry .args .s) (not-false _ (c .before .before .before .if1 .left))) (c .mean-told .ensures ∙ ap meanTold (c .before .mean .ensures))
 
 pub ask-mean-spec : {M : Type 1} → statement M
-ask-mean-spec = tie.close (tie.spec returns mean-requires mean-told-requires returns-2)
+ask-mean-spec = tie.close (tie.spec returns (λ c κs. search needs) (λ c κs. search needs) returns-2)

@@ -10,17 +10,12 @@ returns : tie.Need-returns
 unfolding Replied PickReplied
 returns c = rw (closed (c .before .args .s) (not-true _ (c .if1 .taken)))
 
-pick-requires : tie.Need-pick-requires
-pick-requires c κs = search needs
-
-pick-told-requires : tie.Need-pick-told-requires
-pick-told-requires c κs = search needs
-
 returns-2 : tie.Need-returns-2
 unfolding Replied PickReplied
 returns-2 c =
-    rw (opened (c .before .before .before .before .args .s) (not-false _ (c .before .before .before .if1 .left)))
+    let entry = c .before .before .before .before in
+    rw (opened (entry .args .s) (not-false _ (c .before .before .before .if1 .left)))
     (record { choice = c .before .pick .result; picked = c .before .pick .ensures; reply-is = c .pick-told .ensures })
 
 pub ask-pick-spec : {M : Type 1} → statement M
-ask-pick-spec = tie.close (tie.spec returns pick-requires pick-told-requires returns-2)
+ask-pick-spec = tie.close (tie.spec returns (λ c κs. search needs) (λ c κs. search needs) returns-2)

@@ -10,12 +10,9 @@ returns : tie.Need-returns
 unfolding Replied ifStarted
 returns c = rw (closed (c .before .args .s) (not-true _ (c .if1 .taken)))
 
-total-requires : tie.Need-total-requires
-total-requires c κs = search needs
-
 returns-2 : tie.Need-returns-2
 unfolding Replied ifStarted
 returns-2 c = rw (opened (c .before .before .before .args .s) (not-false _ (c .before .before .if1 .left)), c .total .ensures)
 
 pub ask-total-spec : {M : Type 1} → statement M
-ask-total-spec = tie.close (tie.spec returns total-requires returns-2)
+ask-total-spec = tie.close (tie.spec returns (λ c κs. search needs) returns-2)

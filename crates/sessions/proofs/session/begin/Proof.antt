@@ -5,12 +5,9 @@ use borrow.Author.Needs.{needs}
 use Rattle.sessions.proofs.session.begin.Statement.{statement}
 use Rattle.sessions.proofs.session.begin.Tie as tie
 
-fresh-requires : tie.Need-fresh-requires
-fresh-requires c κs = search needs
-
 returns : tie.Need-returns
 unfolding plainOf
 returns c = refl
 
 pub begin-spec : {M : Type 1} → statement M
-begin-spec = tie.close (tie.spec fresh-requires returns)
+begin-spec = tie.close (tie.spec (λ c κs. search needs) returns)

@@ -7,44 +7,15 @@ use borrow.Author.Needs.{needs}
 use Rattle.sessions.proofs.session.step.Statement.{statement}
 use Rattle.sessions.proofs.session.step.Tie as tie
 
-enum-known-frame : tie.Need-enum-known-frame
-enum-known-frame c = search needs
-
-start-requires : tie.Need-start-requires
-start-requires c κs = search needs
-
-enum-known-frame-2 : tie.Need-enum-known-frame-2
-enum-known-frame-2 c = search needs
-
-tell-requires : tie.Need-tell-requires
-tell-requires c κs = search needs
-
-enum-told : tie.Need-enum-told
-enum-told c = search needs
-
-ask-mean-requires : tie.Need-ask-mean-requires
-ask-mean-requires c κs = search needs
-
-enum-told-2 : tie.Need-enum-told-2
-enum-told-2 c = search needs
-
-ask-pick-requires : tie.Need-ask-pick-requires
-ask-pick-requires c κs = search needs
-
-enum-told-3 : tie.Need-enum-told-3
-enum-told-3 c = search needs
-
-ask-total-requires : tie.Need-ask-total-requires
-ask-total-requires c κs = search needs
-
-enum-told-4 : tie.Need-enum-told-4
-enum-told-4 c = search needs
-
 returns : tie.Need-returns
-returns c = subst (λ (f : Frame). Stepping (c .before .before .before .before .args .s) f (c .start .result)) (sym (c .before .before .frame .given .1)) (c .start .ensures)
+returns c =
+    let entry = c .before .before .before .before in
+    subst (λ (f : Frame). Stepping (entry .args .s) f (c .start .result)) (sym (c .before .before .frame .given .1)) (c .start .ensures)
 
 returns-2 : tie.Need-returns-2
-returns-2 c = subst (λ (f : Frame). Stepping (c .before .before .before .before .args .s) f (c .tell .result)) (sym (c .before .before .frame2 .given .1)) (c .tell .ensures)
+returns-2 c =
+    let entry = c .before .before .before .before in
+    subst (λ (f : Frame). Stepping (entry .args .s) f (c .tell .result)) (sym (c .before .before .frame2 .given .1)) (c .tell .ensures)
 
 returns-3 : tie.Need-returns-3
 returns-3 c = mean-asked _ (c .before .enum-told .given .1) (c .ask-mean .ensures)
@@ -61,21 +32,6 @@ returns-6 c = no-frame _ (c .enum-told4 .given .1)
 pub step-spec : {M : Type 1} → statement M
 step-spec =
     tie.close
-    (tie.spec
-    enum-known-frame
-    start-requires
-    enum-known-frame-2
-    tell-requires
-    enum-told
-    ask-mean-requires
-    enum-told-2
-    ask-pick-requires
-    enum-told-3
-    ask-total-requires
-    enum-told-4
-    returns
-    returns-2
-    returns-3
-    returns-4
-    returns-5
-    returns-6)
+    (tie.spec (λ c. search needs) (λ c κs. search needs) (λ c. search needs) (λ c κs. search needs) (λ c. search needs) (λ c κs. search needs)
+    (λ c. search needs) (λ c κs. search needs) (λ c. search needs) (λ c κs. search needs) (λ c. search needs) returns returns-2 returns-3 returns-4
+    returns-5 returns-6)

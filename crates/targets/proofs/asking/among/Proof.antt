@@ -19,25 +19,13 @@ Inv-loop xs n x found₀ i₀ found i =
 abbrev μ-loop : tie.MeasureT-loop
 μ-loop xs n x found₀ i₀ found i = n - i
 
-loop-holds : tie.Need-loop-holds Inv-loop μ-loop
-loop-holds c = search needs
-
-mul-found : tie.Need-mul-found Inv-loop μ-loop
-mul-found c = search needs
-
-shared-slice-read-found : tie.Need-shared-slice-read-found Inv-loop μ-loop
-shared-slice-read-found c = search needs
-
-add-i : tie.Need-add-i Inv-loop μ-loop
-add-i c = search needs
-
-loop-less : tie.Need-loop-less Inv-loop μ-loop
-loop-less c = search needs
-
 loop-again : tie.Need-loop-again Inv-loop μ-loop
 loop-again c = let at = c .before .before in
-    let a = at .before .args in
-    (search needs, search needs, any-on (a .n) (a .xs .now) (omega arith) (at .loop .i) (λ y. Ieee.eq y (a .x)) (at .loop .found) (at .loop .inv .2) nan _ (omega arith) refl _ _ refl refl)
+    let a = at .before .args in (
+      search needs,
+      search needs,
+      any-on (a .n) (a .xs .now) (omega arith) (at .loop .i) (λ y. Ieee.eq y (a .x)) (at .loop .found) (at .loop .inv .2) nan _ (omega arith) refl _ _ refl refl,
+    )
 
 returns : tie.Need-returns Inv-loop μ-loop
 returns c = let at = c .before in
@@ -47,13 +35,4 @@ returns c = let at = c .before in
 pub among-spec : {M : Type 1} → statement M
 among-spec =
     tie.close
-    (tie.spec
-    Inv-loop
-    μ-loop
-    loop-holds
-    mul-found
-    shared-slice-read-found
-    add-i
-    loop-less
-    loop-again
-    returns)
+    (tie.spec Inv-loop μ-loop (λ c. search needs) (λ c. search needs) (λ c. search needs) (λ c. search needs) (λ c. search needs) loop-again returns)

@@ -21,9 +21,11 @@ abbrev Laid : (Vec3 → Float) → List Target → ℕ → List Float → Type 0
 Laid part ts i out = out ≡ take i (map (λ t. part (vectorOf t)) ts) ++ drop i (replicate mostTargets zero)
 
 module _ (ts : List Target) (full : length ts ≡ mostTargets) (i : ℕ) where
-  laid-on : i < mostTargets → (v : Vec3) → v ≡ vectorOf (getD ts i absent) → (part : Vec3 → Float) (out : List Float) → Laid part ts i out → Laid part ts (i + 1) (set out i (part v))
+  laid-on : i < mostTargets → (v : Vec3) → v ≡ vectorOf (getD ts i absent) → (part : Vec3 → Float) (out : List Float) → Laid part ts i out
+      → Laid part ts (i + 1) (set out i (part v))
   laid-on h v g part out e =
-      laid (map (λ t. part (vectorOf t)) ts) (replicate mostTargets zero) out i (part (vectorOf absent)) (part v) (omega (arith, length-map (λ t. part (vectorOf t)) ts)) (omega (arith, length-replicate {A = Float} mostTargets zero)) e
+      laid (map (λ t. part (vectorOf t)) ts) (replicate mostTargets zero) out i (part (vectorOf absent)) (part v)
+      (omega (arith, length-map (λ t. part (vectorOf t)) ts)) (omega (arith, length-replicate {A = Float} mostTargets zero)) e
       (List·getD-map (λ t. part (vectorOf t)) ts i absent ∙ ap part (sym g))
 
   laid-out : i ≡ mostTargets → (part : Vec3 → Float) (out : List Float) → Laid part ts i out → out ≡ map (λ t. part (vectorOf t)) ts
@@ -37,42 +39,6 @@ Inv-loop ts xs₀ ys₀ zs₀ i₀ xs ys zs i =
 
 abbrev μ-loop : tie.MeasureT-loop
 μ-loop ts xs₀ ys₀ zs₀ i₀ xs ys zs i = mostTargets - i
-
-loop-holds : tie.Need-loop-holds Inv-loop μ-loop
-loop-holds c = search needs
-
-mul-vector-of : tie.Need-mul-vector-of Inv-loop μ-loop
-mul-vector-of c = search needs
-
-array-copy-out-vector-of : tie.Need-array-copy-out-vector-of Inv-loop μ-loop
-array-copy-out-vector-of c = search needs
-
-vector-of-requires : tie.Need-vector-of-requires Inv-loop μ-loop
-vector-of-requires c κs = search needs
-
-mul-xs : tie.Need-mul-xs Inv-loop μ-loop
-mul-xs c = search needs
-
-array-write-xs : tie.Need-array-write-xs Inv-loop μ-loop
-array-write-xs c = search needs
-
-mul-ys : tie.Need-mul-ys Inv-loop μ-loop
-mul-ys c = search needs
-
-array-write-ys : tie.Need-array-write-ys Inv-loop μ-loop
-array-write-ys c = search needs
-
-mul-zs : tie.Need-mul-zs Inv-loop μ-loop
-mul-zs c = search needs
-
-array-write-zs : tie.Need-array-write-zs Inv-loop μ-loop
-array-write-zs c = search needs
-
-add-i : tie.Need-add-i Inv-loop μ-loop
-add-i c = search needs
-
-loop-less : tie.Need-loop-less Inv-loop μ-loop
-loop-less c = search needs
 
 loop-again : tie.Need-loop-again Inv-loop μ-loop
 loop-again c =
@@ -89,20 +55,6 @@ returns c =
 pub columns-of-spec : {M : Type 1} → statement M
 columns-of-spec =
     tie.close
-    (tie.spec
-    Inv-loop
-    μ-loop
-    loop-holds
-    mul-vector-of
-    array-copy-out-vector-of
-    vector-of-requires
-    mul-xs
-    array-write-xs
-    mul-ys
-    array-write-ys
-    mul-zs
-    array-write-zs
-    add-i
-    loop-less
-    loop-again
-    returns)
+    (tie.spec Inv-loop μ-loop (λ c. search needs) (λ c. search needs) (λ c. search needs) (λ c κs. search needs) (λ c. search needs)
+    (λ c. search needs) (λ c. search needs) (λ c. search needs) (λ c. search needs) (λ c. search needs) (λ c. search needs) (λ c. search needs)
+    loop-again returns)

@@ -21,27 +21,18 @@ Inv-loop xs ys zs n a i₀ i =
 abbrev μ-loop : tie.MeasureT-loop
 μ-loop xs ys zs n a i₀ i = n - i
 
-as-vec3-requires : tie.Need-as-vec3-requires Inv-loop μ-loop
-as-vec3-requires c κs = tt
-
 among-requires : tie.Need-among-requires Inv-loop μ-loop
 among-requires c κs =
-    let a = c .before .before .before .before .args in
+    let entry = c .before .before .before .before in
+    let a = entry .args in
     omega (arith, enough (a .xs .now) (a .ys .now) (a .zs .now))
 
 returns : tie.Need-returns Inv-loop μ-loop
 returns c =
-    let a = c .before .before .before .before .before .before .args in
-    sym (contains-none (a .a) (a .n) (a .xs .now) (a .ys .now) (a .zs .now) (rw (c .before .before .as-vec3 .ensures) at (sym (c .before .among .ensures) ∙ not-true (c .before .among .result) (c .if1 .taken))))
-
-loop-holds : tie.Need-loop-holds Inv-loop μ-loop
-loop-holds c = search needs
-
-column-position-requires : tie.Need-column-position-requires Inv-loop μ-loop
-column-position-requires c κs = search needs
-
-eq-requires : tie.Need-eq-requires Inv-loop μ-loop
-eq-requires c κs = tt
+    let entry = c .before .before .before .before .before .before in
+    let a = entry .args in
+    sym (contains-none (a .a) (a .n) (a .xs .now) (a .ys .now) (a .zs .now)
+    (rw (c .before .before .as-vec3 .ensures) at (sym (c .before .among .ensures) ∙ not-true (c .before .among .result) (c .if1 .taken))))
 
 returns-2 : tie.Need-returns-2 Inv-loop μ-loop
 returns-2 c = let at = c .before .before .before .before in
@@ -55,19 +46,14 @@ returns-2 c = let at = c .before .before .before .before in
     (c .before .eq .ensures)
     (c .if2 .taken))
 
-add-i : tie.Need-add-i Inv-loop μ-loop
-add-i c = search needs
-
-loop-less : tie.Need-loop-less Inv-loop μ-loop
-loop-less c = search needs
-
 loop-again : tie.Need-loop-again Inv-loop μ-loop
 loop-again c = let at = c .before .before .before .before in
     let a = at .before .before .before .before .before .before .before .args in
     let p = c .before .before .column-position in (
       search needs,
       search needs,
-      any-on (a .n) (positions (a .xs .now) (a .ys .now) (a .zs .now)) (omega arith) (at .loop .i) (λ p. eq p (a .a)) false (at .loop .inv .2) nowhere (p .result) (omega arith)
+      any-on (a .n) (positions (a .xs .now) (a .ys .now) (a .zs .now)) (omega arith) (at .loop .i) (λ p. eq p (a .a)) false (at .loop .inv .2) nowhere
+          (p .result) (omega arith)
           (position-is (a .xs .now) (a .ys .now) (a .zs .now) (at .loop .i) (p .result) (omega arith) (p .ensures))
           (c .before .eq .result)
           false
@@ -84,17 +70,5 @@ returns-3 c =
 pub contains-spec : {M : Type 1} → statement M
 contains-spec =
     tie.close
-    (tie.spec
-    Inv-loop
-    μ-loop
-    as-vec3-requires
-    among-requires
-    returns
-    loop-holds
-    column-position-requires
-    eq-requires
-    returns-2
-    add-i
-    loop-less
-    loop-again
-    returns-3)
+    (tie.spec Inv-loop μ-loop (λ c κs. tt) among-requires returns (λ c. search needs) (λ c κs. search needs) (λ c κs. tt) returns-2
+    (λ c. search needs) (λ c. search needs) loop-again returns-3)

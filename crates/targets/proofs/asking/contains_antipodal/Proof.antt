@@ -20,7 +20,8 @@ opposed ps p = contains (antipode p) ps
 
 abbrev Inv-loop : tie.InvT-loop
 Inv-loop xs ys zs n i₀ i =
-    (i ≤ n) × (n ≤ length (positions xs ys zs)) × (any (opposed (take n (positions xs ys zs))) (take n (positions xs ys zs)) ≡ any (opposed (take n (positions xs ys zs))) (drop i (take n (positions xs ys zs))))
+    (i ≤ n) × (n ≤ length (positions xs ys zs)) ×
+    (any (opposed (take n (positions xs ys zs))) (take n (positions xs ys zs)) ≡ any (opposed (take n (positions xs ys zs))) (drop i (take n (positions xs ys zs))))
 
 abbrev μ-loop : tie.MeasureT-loop
 μ-loop xs ys zs n i₀ i = n - i
@@ -28,18 +29,6 @@ abbrev μ-loop : tie.MeasureT-loop
 -- the answer of the calls in a turn of the loop
 asked : (ps : List NVector) (p r : NVector) (t : Bool) → r ≡ antipode p → t ≡ contains r ps → t ≡ opposed ps p
 asked ps p r t e f = f ∙ ap (λ (r : NVector). contains r ps) e
-
-loop-holds : tie.Need-loop-holds Inv-loop μ-loop
-loop-holds c = search needs
-
-column-position-requires : tie.Need-column-position-requires Inv-loop μ-loop
-column-position-requires c κs = search needs
-
-antipode-requires : tie.Need-antipode-requires Inv-loop μ-loop
-antipode-requires c κs = tt
-
-contains-requires : tie.Need-contains-requires Inv-loop μ-loop
-contains-requires c κs = search needs
 
 returns : tie.Need-returns Inv-loop μ-loop
 returns c = let at = c .before .before .before .before .before in
@@ -51,14 +40,9 @@ returns c = let at = c .before .before .before .before .before in
     (position-is (a .xs .now) (a .ys .now) (a .zs .now) (at .loop .i) (p .result) (omega arith) (p .ensures))
     (c .before .contains .result)
     true
-    (asked (take (a .n) ps) (p .result) (c .before .before .antipode .result) (c .before .contains .result) (c .before .before .antipode .ensures) (c .before .contains .ensures))
+    (asked (take (a .n) ps) (p .result) (c .before .before .antipode .result) (c .before .contains .result) (c .before .before .antipode .ensures)
+    (c .before .contains .ensures))
     (c .if1 .taken))
-
-add-i : tie.Need-add-i Inv-loop μ-loop
-add-i c = search needs
-
-loop-less : tie.Need-loop-less Inv-loop μ-loop
-loop-less c = search needs
 
 loop-again : tie.Need-loop-again Inv-loop μ-loop
 loop-again c = let at = c .before .before .before .before .before in
@@ -71,7 +55,8 @@ loop-again c = let at = c .before .before .before .before .before in
           (position-is (a .xs .now) (a .ys .now) (a .zs .now) (at .loop .i) (p .result) (omega arith) (p .ensures))
           (c .before .contains .result)
           false
-          (asked (take (a .n) ps) (p .result) (c .before .before .antipode .result) (c .before .contains .result) (c .before .before .antipode .ensures) (c .before .contains .ensures))
+          (asked (take (a .n) ps) (p .result) (c .before .before .antipode .result) (c .before .contains .result)
+          (c .before .before .antipode .ensures) (c .before .contains .ensures))
           (c .if1 .left),
     )
 
@@ -84,15 +69,5 @@ returns-2 c = let at = c .before in
 pub contains-antipodal-spec : {M : Type 1} → statement M
 contains-antipodal-spec =
     tie.close
-    (tie.spec
-    Inv-loop
-    μ-loop
-    loop-holds
-    column-position-requires
-    antipode-requires
-    contains-requires
-    returns
-    add-i
-    loop-less
-    loop-again
-    returns-2)
+    (tie.spec Inv-loop μ-loop (λ c. search needs) (λ c κs. search needs) (λ c κs. tt) (λ c κs. search needs) returns (λ c. search needs)
+    (λ c. search needs) loop-again returns-2)

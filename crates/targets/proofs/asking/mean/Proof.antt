@@ -15,19 +15,22 @@ use Rattle.plain.proofs.Listed.{at-most-le}
 use Rattle.targets.proofs.asking.mean.Statement.{statement}
 use Rattle.targets.proofs.asking.mean.Tie as tie
 
-columns-of-requires : tie.Need-columns-of-requires
-columns-of-requires c κs = search needs
-
-least-requires : tie.Need-least-requires
-least-requires c κs = search needs
-
 mean-of-requires : tie.Need-mean-of-requires
-mean-of-requires c κs = let ts = c .before .before .before .before .args .board .targets in
-    rw (positions-are (c .before .columns-of .result) (ts .entries) (c .before .columns-of .ensures .0), length-map positionOf (ts .entries), c .before .columns-of .ensures .1, c .least .ensures) (at-most-le (ts .count))
+mean-of-requires c κs =
+    let entry = c .before .before .before .before in
+    let ts = entry .args .board .targets in
+    rw (
+      positions-are (c .before .columns-of .result) (ts .entries) (c .before .columns-of .ensures .0),
+      length-map positionOf (ts .entries),
+      c .before .columns-of .ensures .1,
+      c .least .ensures,
+    ) (at-most-le (ts .count))
 
 returns : tie.Need-returns
 unfolding mean plain
-returns c = let ts = c .before .before .before .before .before .args .board .targets in
+returns c =
+    let entry = c .before .before .before .before .before in
+    let ts = entry .args .board .targets in
     let n = c .before .least .result in
     let ps = c .before .before .columns-of in
     c .mean-of .ensures
@@ -36,4 +39,4 @@ returns c = let ts = c .before .before .before .before .before .args .board .tar
     ∙ ap (λ (l : List Target). meanOf (map positionOf l)) (listed-is ts n (c .before .least .ensures))
 
 pub mean-spec : {M : Type 1} → statement M
-mean-spec = tie.close (tie.spec columns-of-requires least-requires mean-of-requires returns)
+mean-spec = tie.close (tie.spec (λ c κs. search needs) (λ c κs. search needs) mean-of-requires returns)

@@ -4,12 +4,6 @@ use borrow.Author.Needs.{needs}
 use Rattle.targets.proofs.asking.sooner.Statement.{statement}
 use Rattle.targets.proofs.asking.sooner.Tie as tie
 
-enum-told : tie.Need-enum-told
-enum-told c = search needs
-
-enum-known-b : tie.Need-enum-known-b
-enum-known-b c = search needs
-
 returns : tie.Need-returns
 returns c = rw (c .enum-told .given .1)
 
@@ -20,4 +14,4 @@ returns-3 : tie.Need-returns-3
 returns-3 c = rw (c .before .before .b .given .1, le-ltb _ _ (c .if1 .left))
 
 pub sooner-spec : {M : Type 1} → statement M
-sooner-spec = tie.close (tie.spec enum-told enum-known-b returns returns-2 returns-3)
+sooner-spec = tie.close (tie.spec (λ c. search needs) (λ c. search needs) returns returns-2 returns-3)

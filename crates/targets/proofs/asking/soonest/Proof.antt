@@ -20,24 +20,6 @@ Inv-loop n entries b₀ i₀ b i =
 abbrev μ-loop : tie.MeasureT-loop
 μ-loop n entries b₀ i₀ b i = n - i
 
-loop-holds : tie.Need-loop-holds Inv-loop μ-loop
-loop-holds c = search needs
-
-mul-better : tie.Need-mul-better Inv-loop μ-loop
-mul-better c = search needs
-
-array-copy-out-better : tie.Need-array-copy-out-better Inv-loop μ-loop
-array-copy-out-better c = search needs
-
-better-requires : tie.Need-better-requires Inv-loop μ-loop
-better-requires c κs = search needs
-
-add-i : tie.Need-add-i Inv-loop μ-loop
-add-i c = search needs
-
-loop-less : tie.Need-loop-less Inv-loop μ-loop
-loop-less c = search needs
-
 loop-again : tie.Need-loop-again Inv-loop μ-loop
 loop-again c = let at = c .before .before .before in
     let a = at .before .args in (
@@ -54,14 +36,5 @@ returns c = let at = c .before in
 pub soonest-spec : {M : Type 1} → statement M
 soonest-spec =
     tie.close
-    (tie.spec
-    Inv-loop
-    μ-loop
-    loop-holds
-    mul-better
-    array-copy-out-better
-    better-requires
-    add-i
-    loop-less
-    loop-again
-    returns)
+    (tie.spec Inv-loop μ-loop (λ c. search needs) (λ c. search needs) (λ c. search needs) (λ c κs. search needs) (λ c. search needs)
+    (λ c. search needs) loop-again returns)

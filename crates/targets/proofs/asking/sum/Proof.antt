@@ -19,28 +19,14 @@ Inv-loop xs ys zs n s₀ i₀ s i =
 abbrev μ-loop : tie.MeasureT-loop
 μ-loop xs ys zs n s₀ i₀ s i = n - i
 
-loop-holds : tie.Need-loop-holds Inv-loop μ-loop
-loop-holds c = search needs
-
-column-position-requires : tie.Need-column-position-requires Inv-loop μ-loop
-column-position-requires c κs = search needs
-
-plus-requires : tie.Need-plus-requires Inv-loop μ-loop
-plus-requires c κs = search needs
-
-add-i : tie.Need-add-i Inv-loop μ-loop
-add-i c = search needs
-
-loop-less : tie.Need-loop-less Inv-loop μ-loop
-loop-less c = search needs
-
 loop-again : tie.Need-loop-again Inv-loop μ-loop
 loop-again c = let at = c .before .before .before in
     let a = at .before .before .before .before .args in
     let p = c .before .column-position in (
       search needs,
       search needs,
-      fold-on (a .n) (positions (a .xs .now) (a .ys .now) (a .zs .now)) (omega arith) (at .loop .i) plus ZERO (at .loop .s) (at .loop .inv .2) nowhere (p .result) (omega arith)
+      fold-on (a .n) (positions (a .xs .now) (a .ys .now) (a .zs .now)) (omega arith) (at .loop .i) plus ZERO (at .loop .s) (at .loop .inv .2) nowhere
+          (p .result) (omega arith)
           (position-is (a .xs .now) (a .ys .now) (a .zs .now) (at .loop .i) (p .result) (omega arith) (p .ensures))
           (c .plus .result)
           (c .plus .ensures),
@@ -54,13 +40,5 @@ returns c = let at = c .before in
 pub sum-spec : {M : Type 1} → statement M
 sum-spec =
     tie.close
-    (tie.spec
-    Inv-loop
-    μ-loop
-    loop-holds
-    column-position-requires
-    plus-requires
-    add-i
-    loop-less
-    loop-again
+    (tie.spec Inv-loop μ-loop (λ c. search needs) (λ c κs. search needs) (λ c κs. search needs) (λ c. search needs) (λ c. search needs) loop-again
     returns)

@@ -6,16 +6,10 @@ use borrow.Author.Needs.{needs}
 use Rattle.wire.proofs.frame.float_at.Statement.{statement}
 use Rattle.wire.proofs.frame.float_at.Tie as tie
 
-sixteen-at-requires : tie.Need-sixteen-at-requires
-sixteen-at-requires c κs = search needs
-
-from-bits-requires : tie.Need-from-bits-requires
-from-bits-requires c κs = search needs
-
 returns : tie.Need-returns
 returns c =
     let s = c .before .before .before in
     c .from-bits .ensures ∙ ap (ofBits binary64) (c .before .sixteen-at .ensures .0 ∙ lows-known (s .args .s .now) (s .args .at) 16 (s .pre .1) (s .pre .0))
 
 pub float-at-spec : {M : Type 1} → statement M
-float-at-spec = tie.close (tie.spec sixteen-at-requires from-bits-requires returns)
+float-at-spec = tie.close (tie.spec (λ c κs. search needs) (λ c κs. search needs) returns)

@@ -5,9 +5,6 @@ use borrow.Author.Needs.{needs}
 use Rattle.wire.proofs.frame.fresh_of.Statement.{statement}
 use Rattle.wire.proofs.frame.fresh_of.Tie as tie
 
-float-at-requires : tie.Need-float-at-requires
-float-at-requires c κs = search needs
-
 returns : tie.Need-returns
 unfolding framed
 returns c = simp (eq-eqb _ _ (c .before .if1 .taken), c .float-at .ensures)
@@ -17,4 +14,4 @@ unfolding framed
 returns-2 c = simp (ne-eqb _ _ (c .if1 .left))
 
 pub fresh-of-spec : {M : Type 1} → statement M
-fresh-of-spec = tie.close (tie.spec float-at-requires returns returns-2)
+fresh-of-spec = tie.close (tie.spec (λ c κs. search needs) returns returns-2)

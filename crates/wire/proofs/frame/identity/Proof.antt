@@ -9,12 +9,6 @@ use borrow.Author.Needs.{needs}
 use Rattle.wire.proofs.frame.identity.Statement.{statement}
 use Rattle.wire.proofs.frame.identity.Tie as tie
 
-two-at-requires : tie.Need-two-at-requires
-two-at-requires c κs = search needs
-
-two-at-requires-2 : tie.Need-two-at-requires-2
-two-at-requires-2 c κs = search needs
-
 first : (c : tie.After-two-at2) → c .before .two-at .result ≡ hexAt (now (c .before .before .before .args .s)) 2 2
 first c = let s = c .before .before .before in c .before .two-at .ensures .0 ∙ lows-known (s .args .s .now) 2 2 (s .pre .1) (omega arith)
 
@@ -42,4 +36,4 @@ returns c = four c
 pub identity-spec : {M : Type 1} → statement M
 identity-spec =
     tie.close
-    (tie.spec two-at-requires mul-result two-at-requires-2 add-result cast-result returns)
+    (tie.spec (λ c κs. search needs) mul-result (λ c κs. search needs) add-result cast-result returns)

@@ -5,9 +5,6 @@ use borrow.Author.Needs.{needs}
 use Rattle.wire.proofs.frame.own_ship_of.Statement.{statement}
 use Rattle.wire.proofs.frame.own_ship_of.Tie as tie
 
-fix-at-requires : tie.Need-fix-at-requires
-fix-at-requires c κs = search needs
-
 returns : tie.Need-returns
 unfolding framed
 returns c = simp (eq-eqb _ _ (c .before .if1 .taken), c .fix-at .ensures)
@@ -17,4 +14,4 @@ unfolding framed
 returns-2 c = simp (ne-eqb _ _ (c .if1 .left))
 
 pub own-ship-of-spec : {M : Type 1} → statement M
-own-ship-of-spec = tie.close (tie.spec fix-at-requires returns returns-2)
+own-ship-of-spec = tie.close (tie.spec (λ c κs. search needs) returns returns-2)

@@ -8,9 +8,6 @@ use Rattle.wire.proofs.frame.read.Tie as tie
 returns : tie.Need-returns
 returns c = (sym (long-is-no-frame _ (c .if1 .taken)), refl)
 
-all-digits-requires : tie.Need-all-digits-requires
-all-digits-requires c κs = search needs
-
 read-known-requires : tie.Need-read-known-requires
 read-known-requires c κs = c .all-digits .ensures .0
 
@@ -18,4 +15,4 @@ returns-2 : tie.Need-returns-2
 returns-2 c = (c .read-known .ensures, refl)
 
 pub read-spec : {M : Type 1} → statement M
-read-spec = tie.close (tie.spec returns all-digits-requires read-known-requires returns-2)
+read-spec = tie.close (tie.spec returns (λ c κs. search needs) read-known-requires returns-2)

@@ -24,9 +24,6 @@ returns c = no-digits _ (fails (c .before .before .pre) (c .if1 .taken))
 returns-2 : tie.Need-returns-2
 returns-2 c = sym (short _ (c .if2 .taken))
 
-two-at-requires : tie.Need-two-at-requires
-two-at-requires c κs = search needs
-
 fresh-of-requires : tie.Need-fresh-of-requires
 fresh-of-requires c κs = digits-alone (c .before .before)
 
@@ -44,15 +41,6 @@ track-of-requires c κs = digits-alone (c .before .before)
 
 solve-of-requires : tie.Need-solve-of-requires
 solve-of-requires c κs = digits-alone (c .before .before)
-
-asked-requires : tie.Need-asked-requires
-asked-requires c κs = search needs
-
-asked-requires-2 : tie.Need-asked-requires-2
-asked-requires-2 c κs = search needs
-
-asked-requires-3 : tie.Need-asked-requires-3
-asked-requires-3 c κs = search needs
 
 returns-3 : tie.Need-returns-3
 returns-3 c = known-kind-framed _ _ 0 _ (digits-alone (c .before .before .before)) (kind-is (c .before .before)) (c .before .match .keys1) (c .fresh-of .ensures)
@@ -94,26 +82,6 @@ returns-12 c =
 pub read-known-spec : {M : Type 1} → statement M
 read-known-spec =
     tie.close
-    (tie.spec
-    returns
-    returns-2
-    two-at-requires
-    fresh-of-requires
-    report-of-requires
-    withdraw-of-requires
-    own-ship-of-requires
-    track-of-requires
-    solve-of-requires
-    asked-requires
-    asked-requires-2
-    asked-requires-3
-    returns-3
-    returns-4
-    returns-5
-    returns-6
-    returns-7
-    returns-8
-    returns-9
-    returns-10
-    returns-11
-    returns-12)
+    (tie.spec returns returns-2 (λ c κs. search needs) fresh-of-requires report-of-requires withdraw-of-requires own-ship-of-requires
+    track-of-requires solve-of-requires (λ c κs. search needs) (λ c κs. search needs) (λ c κs. search needs) returns-3 returns-4 returns-5 returns-6
+    returns-7 returns-8 returns-9 returns-10 returns-11 returns-12)

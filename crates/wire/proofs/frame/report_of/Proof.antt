@@ -5,12 +5,6 @@ use borrow.Author.Needs.{needs}
 use Rattle.wire.proofs.frame.report_of.Statement.{statement}
 use Rattle.wire.proofs.frame.report_of.Tie as tie
 
-identity-requires : tie.Need-identity-requires
-identity-requires c κs = search needs
-
-fix-at-requires : tie.Need-fix-at-requires
-fix-at-requires c κs = search needs
-
 returns : tie.Need-returns
 unfolding framed
 returns c = simp (eq-eqb _ _ (c .before .before .if1 .taken), c .before .identity .ensures, c .fix-at .ensures)
@@ -20,4 +14,4 @@ unfolding framed
 returns-2 c = simp (ne-eqb _ _ (c .if1 .left))
 
 pub report-of-spec : {M : Type 1} → statement M
-report-of-spec = tie.close (tie.spec identity-requires fix-at-requires returns returns-2)
+report-of-spec = tie.close (tie.spec (λ c κs. search needs) (λ c κs. search needs) returns returns-2)

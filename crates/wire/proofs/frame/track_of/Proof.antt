@@ -5,12 +5,6 @@ use borrow.Author.Needs.{needs}
 use Rattle.wire.proofs.frame.track_of.Statement.{statement}
 use Rattle.wire.proofs.frame.track_of.Tie as tie
 
-coordinates-at-requires : tie.Need-coordinates-at-requires
-coordinates-at-requires c κs = search needs
-
-coordinates-at-requires-2 : tie.Need-coordinates-at-requires-2
-coordinates-at-requires-2 c κs = search needs
-
 returns : tie.Need-returns
 unfolding framed
 returns c = simp (eq-eqb _ _ (c .before .before .if1 .taken), c .before .coordinates-at .ensures, c .coordinates-at2 .ensures)
@@ -20,4 +14,4 @@ unfolding framed
 returns-2 c = simp (ne-eqb _ _ (c .if1 .left))
 
 pub track-of-spec : {M : Type 1} → statement M
-track-of-spec = tie.close (tie.spec coordinates-at-requires coordinates-at-requires-2 returns returns-2)
+track-of-spec = tie.close (tie.spec (λ c κs. search needs) (λ c κs. search needs) returns returns-2)

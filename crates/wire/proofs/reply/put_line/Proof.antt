@@ -5,47 +5,21 @@ use borrow.Author.Needs.{needs}
 use Rattle.wire.proofs.reply.put_line.Statement.{statement}
 use Rattle.wire.proofs.reply.put_line.Tie as tie
 
-put-float-requires : tie.Need-put-float-requires
-put-float-requires c κs = search needs
-
-put-float-requires-2 : tie.Need-put-float-requires-2
-put-float-requires-2 c κs = search needs
-
-put-side-requires : tie.Need-put-side-requires
-put-side-requires c κs = search needs
-
-put-float-requires-3 : tie.Need-put-float-requires-3
-put-float-requires-3 c κs = search needs
-
-put-outcome-requires : tie.Need-put-outcome-requires
-put-outcome-requires c κs = search needs
-
-put-outcome-requires-2 : tie.Need-put-outcome-requires-2
-put-outcome-requires-2 c κs = search needs
-
-put-outcome-requires-3 : tie.Need-put-outcome-requires-3
-put-outcome-requires-3 c κs = search needs
-
-same-length : tie.Need-same-length
-same-length c = search needs
-
 returns : tie.Need-returns
 unfolding lineDigits
 returns c =
-    let a = then (c .before .before .before .before .before .before .before .before .before .before .before .before .before .before .before .before .before .before .before .before .before .before .before .before .before .before .put-float .ensures) (c .before .before .before .before .before .before .before .before .before .before .before .before .before .before .before .before .before .before .before .before .before .before .put-float2 .ensures) in
-    let b = then (then a (c .before .before .before .before .before .before .before .before .before .before .before .before .before .before .before .before .before .before .put-side .ensures)) (c .before .before .before .before .before .before .before .before .before .before .before .before .before .before .put-float3 .ensures) in
-    then (then (then b (c .before .before .before .before .before .before .before .before .before .before .put-outcome .ensures)) (c .before .before .before .before .before .before .put-outcome2 .ensures)) (c .before .before .put-outcome3 .ensures)
+    let at-put-outcome2 = c .before .before .before .before .before .before in
+    let at-put-outcome = at-put-outcome2 .before .before .before .before in
+    let at-put-float3 = at-put-outcome .before .before .before .before in
+    let at-put-side = at-put-float3 .before .before .before .before in
+    let at-put-float2 = at-put-side .before .before .before .before in
+    let at-put-float = at-put-float2 .before .before .before .before in
+    let a = then (at-put-float .put-float .ensures) (at-put-float2 .put-float2 .ensures) in
+    let b = then (then a (at-put-side .put-side .ensures)) (at-put-float3 .put-float3 .ensures) in
+    then (then (then b (at-put-outcome .put-outcome .ensures)) (at-put-outcome2 .put-outcome2 .ensures)) (c .before .before .put-outcome3 .ensures)
 
 pub put-line-spec : {M : Type 1} → statement M
 put-line-spec =
     tie.close
-    (tie.spec
-    put-float-requires
-    put-float-requires-2
-    put-side-requires
-    put-float-requires-3
-    put-outcome-requires
-    put-outcome-requires-2
-    put-outcome-requires-3
-    same-length
-    returns)
+    (tie.spec (λ c κs. search needs) (λ c κs. search needs) (λ c κs. search needs) (λ c κs. search needs) (λ c κs. search needs)
+    (λ c κs. search needs) (λ c κs. search needs) (λ c. search needs) returns)

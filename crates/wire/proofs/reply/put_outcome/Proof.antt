@@ -7,51 +7,24 @@ use borrow.Author.Needs.{needs}
 use Rattle.wire.proofs.reply.put_outcome.Statement.{statement}
 use Rattle.wire.proofs.reply.put_outcome.Tie as tie
 
-number-requires : tie.Need-number-requires
-number-requires c κs = search needs
-
-cast-put-number : tie.Need-cast-put-number
-cast-put-number c = search needs
-
-put-number-requires : tie.Need-put-number-requires
-put-number-requires c κs = search needs
-
-nanoseconds-requires : tie.Need-nanoseconds-requires
-nanoseconds-requires c κs = search needs
-
-put-number-requires-2 : tie.Need-put-number-requires-2
-put-number-requires-2 c κs = search needs
-
-count-requires : tie.Need-count-requires
-count-requires c κs = search needs
-
-cast-put-number-2 : tie.Need-cast-put-number-2
-cast-put-number-2 c = search needs
-
-put-number-requires-3 : tie.Need-put-number-requires-3
-put-number-requires-3 c κs = search needs
-
-same-length : tie.Need-same-length
-same-length c = search needs
-
 returns : tie.Need-returns
 unfolding outcomeDigits
 returns c =
-    let a = number-wrote 2 _ (c .before .before .before .before .before .before .before .before .before .before .before .before .put-number .ensures) (omega (arith, c .before .before .before .before .before .before .before .before .before .before .before .before .before .before .before .before .pre)) in
-    let b = more 16 _ a (c .before .before .before .before .before .before .before .put-number2 .ensures) (omega (arith, c .before .before .before .before .before .before .before .before .before .before .before .before .before .before .before .before .pre)) in
-    rw (c .before .before .before .before .before .before .before .before .before .before .before .before .before .number .ensures, c .before .before .before .before .before .before .before .before .nanoseconds .ensures, c .before .before .before .count .ensures) at (more 2 _ b (c .before .before .put-number3 .ensures) (c .before .before .before .before .before .before .before .before .before .before .before .before .before .before .before .before .pre))
+    let at-put-number2 = c .before .before .before .before .before .before .before in
+    let at-nanoseconds = at-put-number2 .before in
+    let at-put-number = at-nanoseconds .before .before .before .before in
+    let at-number = at-put-number .before in
+    let entry = at-number .before .before .before in
+    let a = number-wrote 2 _ (at-put-number .put-number .ensures) (omega (arith, entry .pre)) in
+    let b = more 16 _ a (at-put-number2 .put-number2 .ensures) (omega (arith, entry .pre)) in
+    rw (
+      at-number .number .ensures,
+      at-nanoseconds .nanoseconds .ensures,
+      c .before .before .before .count .ensures,
+    ) at (more 2 _ b (c .before .before .put-number3 .ensures) (entry .pre))
 
 pub put-outcome-spec : {M : Type 1} → statement M
 put-outcome-spec =
     tie.close
-    (tie.spec
-    number-requires
-    cast-put-number
-    put-number-requires
-    nanoseconds-requires
-    put-number-requires-2
-    count-requires
-    cast-put-number-2
-    put-number-requires-3
-    same-length
-    returns)
+    (tie.spec (λ c κs. search needs) (λ c. search needs) (λ c κs. search needs) (λ c κs. search needs) (λ c κs. search needs) (λ c κs. search needs)
+    (λ c. search needs) (λ c κs. search needs) (λ c. search needs) returns)

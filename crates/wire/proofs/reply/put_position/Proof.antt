@@ -5,23 +5,14 @@ use borrow.Author.Needs.{needs}
 use Rattle.wire.proofs.reply.put_position.Statement.{statement}
 use Rattle.wire.proofs.reply.put_position.Tie as tie
 
-put-float-requires : tie.Need-put-float-requires
-put-float-requires c κs = search needs
-
-put-float-requires-2 : tie.Need-put-float-requires-2
-put-float-requires-2 c κs = search needs
-
-put-float-requires-3 : tie.Need-put-float-requires-3
-put-float-requires-3 c κs = search needs
-
-same-length : tie.Need-same-length
-same-length c = search needs
-
 returns : tie.Need-returns
 unfolding positionDigits
-returns c = then (then (c .before .before .before .before .before .before .before .before .before .before .put-float .ensures) (c .before .before .before .before .before .before .put-float2 .ensures)) (c .before .before .put-float3 .ensures)
+returns c =
+    let at-put-float2 = c .before .before .before .before .before .before in
+    let at-put-float = at-put-float2 .before .before .before .before in
+    then (then (at-put-float .put-float .ensures) (at-put-float2 .put-float2 .ensures)) (c .before .before .put-float3 .ensures)
 
 pub put-position-spec : {M : Type 1} → statement M
 put-position-spec =
     tie.close
-    (tie.spec put-float-requires put-float-requires-2 put-float-requires-3 same-length returns)
+    (tie.spec (λ c κs. search needs) (λ c κs. search needs) (λ c κs. search needs) (λ c. search needs) returns)

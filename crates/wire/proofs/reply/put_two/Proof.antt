@@ -6,17 +6,11 @@ use borrow.Author.Needs.{needs}
 use Rattle.wire.proofs.reply.put_two.Statement.{statement}
 use Rattle.wire.proofs.reply.put_two.Tie as tie
 
-put-number-requires : tie.Need-put-number-requires
-put-number-requires c κs = search needs
-
-put-number-requires-2 : tie.Need-put-number-requires-2
-put-number-requires-2 c κs = search needs
-
-same-length : tie.Need-same-length
-same-length c = search needs
-
 returns : tie.Need-returns
-returns c = more 2 _ (number-wrote 2 _ (c .before .before .before .before .before .before .put-number .ensures) (omega (arith, c .before .before .before .before .before .before .before .before .before .pre))) (c .before .before .put-number2 .ensures) (c .before .before .before .before .before .before .before .before .before .pre)
+returns c =
+    let at-put-number = c .before .before .before .before .before .before in
+    let entry = at-put-number .before .before .before in
+    more 2 _ (number-wrote 2 _ (at-put-number .put-number .ensures) (omega (arith, entry .pre))) (c .before .before .put-number2 .ensures) (entry .pre)
 
 pub put-two-spec : {M : Type 1} → statement M
-put-two-spec = tie.close (tie.spec put-number-requires put-number-requires-2 same-length returns)
+put-two-spec = tie.close (tie.spec (λ c κs. search needs) (λ c κs. search needs) (λ c. search needs) returns)

@@ -15,7 +15,14 @@ unfolding ofBits ofInt
 half-circle c = rw (by-size (c .before .before .before), sym (c .before .before .eq .ensures) ∙ c .before .if1 .taken) (c .mul .ensures)
 
 other : tie.Need-returns-2
-other c = rw (by-size (c .before .before .before .before), sym (c .before .before .before .eq .ensures) ∙ c .before .before .if1 .left, c .mul-angle .ensures, c .before .normalised-to .ensures)
+other c =
+    rw (
+      by-size (c .before .before .before .before),
+      sym (c .before .before .before .eq .ensures)
+          ∙ c .before .before .if1 .left,
+      c .mul-angle .ensures,
+      c .before .normalised-to .ensures,
+    )
 
 pub angle-to-distance-spec : {M : Type 1} → statement M
 angle-to-distance-spec = tie.close (tie.spec (λ c κs. tt) (λ c κs. tt) (λ c κs. tt) half-circle (λ c κs. tt) (λ c κs. tt) other)

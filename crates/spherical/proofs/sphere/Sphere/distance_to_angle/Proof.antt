@@ -6,7 +6,8 @@ use Rattle.spherical.proofs.sphere.Sphere.distance_to_angle.Tie as tie
 
 -- the tests of `distance_to_angle` over the results of the calls
 by-size : (c : tie.After-mul)
-    → (let a = c .before .before .args in distanceToAngle (a .self) (a .distance) ≡ angleOf (c .before .abs .result .metres) (c .mul .result .metres) (a .self .radius .metres))
+    → (let a = c .before .before .args in distanceToAngle (a .self) (a .distance) ≡ angleOf (c .before .abs .result .metres) (c .mul .result .metres)
+    (a .self .radius .metres))
 unfolding distanceToAngle
 by-size c = rw (c .mul .ensures, c .before .abs .ensures)
 

@@ -8,7 +8,13 @@ along : tie.Need-returns
 unfolding initialBearing
 along c =
     let k = c .before .before .before in
-    rw (sym (k .before .is-great-circle .ensures) ∙ k .if1 .taken, c .normalised .ensures, c .before .from-radians .ensures, c .before .before .initial-bearing-radians .ensures)
+    rw (
+      sym (k .before .is-great-circle .ensures)
+          ∙ k .if1 .taken,
+      c .normalised .ensures,
+      c .before .from-radians .ensures,
+      c .before .before .initial-bearing-radians .ensures,
+    )
 
 none : tie.Need-returns-2
 unfolding initialBearing

@@ -20,7 +20,14 @@ between : tie.Need-returns-4
 unfolding interpolatedPosition
 between c =
     let k = c .before .before .before in
-    rw (not-false (isFraction (k .before .before .before .args .f)) (k .before .before .if1 .left), k .before .if2 .left, k .if3 .left, c .position-on-great-circle .ensures, c .before .mul .ensures, c .before .before .angle .ensures)
+    rw (
+      not-false (isFraction (k .before .before .before .args .f)) (k .before .before .if1 .left),
+      k .before .if2 .left,
+      k .if3 .left,
+      c .position-on-great-circle .ensures,
+      c .before .mul .ensures,
+      c .before .before .angle .ensures,
+    )
 
 pub interpolated-position-spec : {M : Type 1} → statement M
 interpolated-position-spec = tie.close (tie.spec outside first-end second-end (λ c κs. tt) (λ c κs. tt) (λ c κs. tt) between)

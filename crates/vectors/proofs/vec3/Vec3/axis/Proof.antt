@@ -4,7 +4,8 @@ use Rattle.vectors.specs.Vec3.{axis, axisOf}
 use Rattle.vectors.proofs.vec3.Vec3.axis.Statement.{statement}
 use Rattle.vectors.proofs.vec3.Vec3.axis.Tie as tie
 
-by-size : (c : tie.After-magnitude3) → axis (c .before .before .before .args .self) ≡ axisOf (c .before .before .magnitude .result) (c .before .magnitude2 .result) (c .magnitude3 .result)
+by-size : (c : tie.After-magnitude3)
+    → axis (c .before .before .before .args .self) ≡ axisOf (c .before .before .magnitude .result) (c .before .magnitude2 .result) (c .magnitude3 .result)
 unfolding axis
 by-size c = rw (c .magnitude3 .ensures, c .before .magnitude2 .ensures, c .before .before .magnitude .ensures)
 
