@@ -36,13 +36,13 @@ slice-aggregate-read c =
 
 returns-3 : tie.Need-returns-3
 returns-3 c =
+    let entry = c .before .before .before .before .before .before .before .before .before .before .before .before in
+    let a = entry .args in
+    let l : length (a .s .line) ≡ kept = search needs in
     let at-read = c .before .before .before .before in
     let at-if2 = at-read .before .before .before .before in
     let at-if1 = at-if2 .before in
     let at-kept = at-if1 .before in
-    let entry = at-kept .before .before in
-    let a = entry .args in
-    let l : length (a .s .line) ≡ kept = search needs in
     finished-line l (at-kept .kept .ensures) (at-if1 .if1 .left) (at-if2 .if2 .left) (at-read .read .ensures .0) (c .before .before .answer .ensures)
 
 pub finish-spec : {M : Type 1} → statement M
