@@ -1,48 +1,65 @@
--- The cases of the frame that a line is.
-use Prim.Native.Nat.{ℕ, _<_}
+-- The frame that a line is by its length, and by the way its numbers are read.
+use Prim.Native.Nat.{ℕ, _+_, _<_}
 use mathlib.Core.Bool.{Bool, true, false, cond}
 use mathlib.Core.List.{List}
-use mathlib.Core.Path.{_≡_, refl}
+use mathlib.Core.Path.{_≡_, refl, sym, _∙_}
 use native.Mathlib.Omega.{arith}
-use borrow.Author.Tests.{ne-eqb}
-use lib.Dec.{eqb}
+use borrow.Author.Tests.{leb-true, leb-false, eqb-true, ne-eqb}
+use lib.Dec.{eqb, leb}
 use lib.ListN.{length}
-use Rattle.unhex.specs.Digits.{allDigits, hexAt}
+use Rattle.unhex.specs.Digits.{allDigits, hexAt, lowsIn}
+use Rattle.unhex.proofs.Read.{by-test, lows-known}
 use Rattle.wire.specs.declared.frame.Frame.{Frame}
 use Rattle.wire.specs.declared.frame.Frame.the-variants.{NotAFrame}
-use Rattle.wire.specs.Frame.{framed, frameOf, mostFrameDigits}
+use Rattle.wire.specs.Frame.{sized, framed, frameOf, mostFrameDigits}
+use Rattle.wire.specs.Known.{frameKnown}
 
-same : (b : Bool) (f : Frame) → cond b f f ≡ f
-same true f = refl
-same false f = refl
+same : (b : Bool) (x : Frame) → cond b x x ≡ x
+same true x = refl
+same false x = refl
 
--- a byte that is no digit
-pub no-digits : (s : List ℕ) → allDigits s ≡ false → NotAFrame ≡ frameOf s
-unfolding frameOf
-no-digits s e = rw e
+-- frames that are equal where a test holds
+tested : (b : Bool) {x y : Frame} → (b ≡ true → x ≡ y) → cond b x NotAFrame ≡ cond b y NotAFrame
+tested true h = h refl
+tested false h = refl
 
--- digits of a known kind
-pub known-kind-framed : (s : List ℕ) (v k : ℕ) (f : Frame) → allDigits s ≡ true → v ≡ hexAt s 0 2 → v ≡ k → f ≡ framed k s → f ≡ frameOf s
-unfolding frameOf
-known-kind-framed s v k f d e h g = rw (d, ← e, h, g)
-
--- digits of no known kind
-pub unknown : (s : List ℕ) (v : ℕ) → allDigits s ≡ true → v ≡ hexAt s 0 2 → (v ≡ 0 → ⊥) → (v ≡ 1 → ⊥) → (v ≡ 2 → ⊥) → (v ≡ 3 → ⊥) → (v ≡ 4 → ⊥)
-    → (v ≡ 5 → ⊥) → (v ≡ 6 → ⊥) → (v ≡ 7 → ⊥) → (v ≡ 8 → ⊥) → NotAFrame ≡ frameOf s
-unfolding framed frameOf
-unknown s v d e n0 n1 n2 n3 n4 n5 n6 n7 n8 =
-    rw (d, ← e) (simp (ne-eqb v 0 n0, ne-eqb v 1 n1, ne-eqb v 2 n2, ne-eqb v 3 n3, ne-eqb v 4 n4, ne-eqb v 5 n5, ne-eqb v 6 n6, ne-eqb v 7 n7, ne-eqb v 8 n8))
+-- a line shorter or longer than any frame is none
+no-size : (number : List ℕ → ℕ → ℕ → ℕ) (kind : ℕ) (s : List ℕ)
+    → ((n : ℕ) → leb 2 n ≡ true → leb n mostFrameDigits ≡ true → eqb (length s) n ≡ false) → framed number kind s ≡ NotAFrame
+unfolding framed
+no-size number kind s h = simp (h, same)
 
 -- fewer digits than a kind has are no frame
-pub short : (s : List ℕ) → length s < 2 → frameOf s ≡ NotAFrame
-unfolding framed frameOf
-short s h =
-    let n : (k : ℕ) → 1 < k → eqb (length s) k ≡ false = λ k g. ne-eqb (length s) k (λ e. omega arith) in
-    simp (n 18 (omega arith), n 86 (omega arith), n 6 (omega arith), n 82 (omega arith), n 98 (omega arith), n 2 (omega arith), same)
+short : (number : List ℕ → ℕ → ℕ → ℕ) (kind : ℕ) (s : List ℕ) → leb 2 (length s) ≡ false → framed number kind s ≡ NotAFrame
+short number kind s h = no-size number kind s (λ n t u. ne-eqb (length s) n (λ e. omega (arith, leb-true 2 n t, leb-false 2 (length s) h)))
 
 -- more digits than the longest frame has are no frame
 pub long-is-no-frame : (s : List ℕ) → mostFrameDigits < length s → frameOf s ≡ NotAFrame
-unfolding framed frameOf
+unfolding frameOf
 long-is-no-frame s h =
-    let n : (k : ℕ) → k < 99 → eqb (length s) k ≡ false = λ k g. ne-eqb (length s) k (λ e. omega arith) in
-    simp (n 18 (omega arith), n 86 (omega arith), n 6 (omega arith), n 82 (omega arith), n 98 (omega arith), n 2 (omega arith), same)
+    rw (no-size hexAt (hexAt s 0 2) s (λ n t u. ne-eqb (length s) n (λ e. omega (arith, leb-true n mostFrameDigits u)))) (same (allDigits s) NotAFrame)
+
+-- two ways of reading that agree on digits that are there read one frame
+module _ (f g : List ℕ → ℕ → ℕ → ℕ) (kind : ℕ) (s : List ℕ) (e : (at n : ℕ) → leb (at + n) (length s) ≡ true → f s at n ≡ g s at n) where
+  -- kind k has n digits, and the later kinds read one frame
+  arm : (k n : ℕ) {x y u v : Frame} → (length s ≡ n → x ≡ y) → u ≡ v → cond (eqb kind k) (sized n s x) u ≡ cond (eqb kind k) (sized n s y) v
+  arm k n h i = rw (i, tested (eqb (length s) n) (λ t. h (eqb-true (length s) n t)))
+
+  framed-same : framed f kind s ≡ framed g kind s
+  unfolding framed
+  framed-same =
+      arm 0 18 (λ h. simp (e, h)) (arm 1 86 (λ h. simp (e, h)) (arm 2 6 (λ h. simp (e, h)) (arm 3 82 (λ h. simp (e, h)) (
+      arm 4 98 (λ h. simp (e, h)) (arm 5 6 (λ h. simp (e, h)) refl)))))
+
+-- the low bits of digits read their frame
+known-framed : (s : List ℕ) → allDigits s ≡ true → framed lowsIn (lowsIn s 0 2) s ≡ framed hexAt (hexAt s 0 2) s
+known-framed s d =
+    let e : (at n : ℕ) → leb (at + n) (length s) ≡ true → lowsIn s at n ≡ hexAt s at n = λ at n t. lows-known s at n d (leb-true (at + n) (length s) t) in
+    by-test (leb 2 (length s))
+    (λ t. rw (e 0 2 t) (framed-same lowsIn hexAt (hexAt s 0 2) s e))
+    (λ t. short lowsIn (lowsIn s 0 2) s t ∙ sym (short hexAt (hexAt s 0 2) s t))
+
+-- who knows whether the line is digits alone reads its frame
+pub known-frame : (s : List ℕ) {digits : Bool} → digits ≡ allDigits s → frameKnown digits s ≡ frameOf s
+unfolding frameOf frameKnown
+known-frame s k = rw k (tested (allDigits s) (known-framed s))

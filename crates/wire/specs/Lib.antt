@@ -1,2 +1,4 @@
 pub mod Frame
+pub mod Known
 pub mod Reply
+pub mod Table

@@ -2,9 +2,9 @@
 ghost use mathlib.Core.Path.{_≡_};
 ghost use Prim.Native.Nat.{_+_, _≤_};
 ghost use lib.ListN.{length};
-ghost use mathlib.Core.Bool.{true};
-ghost use Rattle.unhex.specs.Digits.{hexAt, allDigits};
+ghost use Rattle.unhex.specs.Digits.{lowsIn};
 ghost use Rattle.wire.specs.Frame as spec;
+ghost use Rattle.wire.specs.Known as known;
 use plain::call::Call;
 use plain::call::Coordinates;
 use plain::call::Fix;
@@ -38,26 +38,25 @@ pub enum Frame {
     NotAFrame,
 }
 
-// The float of the 16 digits of s from at on; every NaN pattern is a NaN.
+// The float of the 16 digits of s from at on, 0 where s ends before; every NaN pattern is a NaN.
 fn float_at(s: &[u8], at: usize) -> f64
-    requires { ⌜ (at + 16 ≤ length (now s)) × (allDigits (now s) ≡ true) ⌝ }
-    ensures { λ r. ⌜ r ≡ spec.floatAt (now (s .entry)) at ⌝ }
+    ensures { λ r. ⌜ r ≡ spec.floatAt lowsIn (now (s .entry)) at ⌝ }
 {
     patterns::from_bits(hex::sixteen_at(s, at))
 }
 
 // The identity in the 4 digits of s past the kind.
 fn identity(s: &[u8]) -> u16
-    requires { ⌜ (6 ≤ length (now s)) × (allDigits (now s) ≡ true) ⌝ }
-    ensures { λ r. ⌜ r ≡ hexAt (now (s .entry)) 2 4 ⌝ }
+    requires { ⌜ 6 ≤ length (now s) ⌝ }
+    ensures { λ r. ⌜ r ≡ spec.identityIn lowsIn (now (s .entry)) ⌝ }
 {
     (hex::two_at(s, 2) * 256 + hex::two_at(s, 4)) as u16
 }
 
 // The position in the 48 digits of s from at on.
 fn coordinates_at(s: &[u8], at: usize) -> Coordinates
-    requires { ⌜ (at + 48 ≤ length (now s)) × (allDigits (now s) ≡ true) ⌝ }
-    ensures { λ r. ⌜ r ≡ spec.coordinatesAt (now (s .entry)) at ⌝ }
+    requires { ⌜ at + 48 ≤ length (now s) ⌝ }
+    ensures { λ r. ⌜ r ≡ spec.coordinatesAt lowsIn (now (s .entry)) at ⌝ }
 {
     Coordinates {
         x: float_at(s, at),
@@ -68,8 +67,8 @@ fn coordinates_at(s: &[u8], at: usize) -> Coordinates
 
 // The position, bearing and speed in the 80 digits of s from at on.
 fn fix_at(s: &[u8], at: usize) -> Fix
-    requires { ⌜ (at + 80 ≤ length (now s)) × (allDigits (now s) ≡ true) ⌝ }
-    ensures { λ r. ⌜ r ≡ spec.fixAt (now (s .entry)) at ⌝ }
+    requires { ⌜ at + 80 ≤ length (now s) ⌝ }
+    ensures { λ r. ⌜ r ≡ spec.fixAt lowsIn (now (s .entry)) at ⌝ }
 {
     let position = coordinates_at(s, at);
     Fix {
@@ -81,8 +80,7 @@ fn fix_at(s: &[u8], at: usize) -> Fix
 
 // A frame of kind 00.
 fn fresh_of(s: &[u8]) -> Frame
-    requires { ⌜ allDigits (now s) ≡ true ⌝ }
-    ensures { λ r. ⌜ r ≡ spec.framed 0 (now (s .entry)) ⌝ }
+    ensures { λ r. ⌜ r ≡ spec.framed lowsIn 0 (now (s .entry)) ⌝ }
 {
     if s.len() == FRESH {
         Frame::Fresh(float_at(s, 2))
@@ -93,8 +91,7 @@ fn fresh_of(s: &[u8]) -> Frame
 
 // A frame of kind 01.
 fn report_of(s: &[u8]) -> Frame
-    requires { ⌜ allDigits (now s) ≡ true ⌝ }
-    ensures { λ r. ⌜ r ≡ spec.framed 1 (now (s .entry)) ⌝ }
+    ensures { λ r. ⌜ r ≡ spec.framed lowsIn 1 (now (s .entry)) ⌝ }
 {
     if s.len() == REPORT {
         Frame::Told(Call::Report(identity(s), fix_at(s, 6)))
@@ -105,8 +102,7 @@ fn report_of(s: &[u8]) -> Frame
 
 // A frame of kind 02.
 fn withdraw_of(s: &[u8]) -> Frame
-    requires { ⌜ allDigits (now s) ≡ true ⌝ }
-    ensures { λ r. ⌜ r ≡ spec.framed 2 (now (s .entry)) ⌝ }
+    ensures { λ r. ⌜ r ≡ spec.framed lowsIn 2 (now (s .entry)) ⌝ }
 {
     if s.len() == NAMED {
         Frame::Told(Call::Withdraw(identity(s)))
@@ -117,8 +113,7 @@ fn withdraw_of(s: &[u8]) -> Frame
 
 // A frame of kind 03.
 fn own_ship_of(s: &[u8]) -> Frame
-    requires { ⌜ allDigits (now s) ≡ true ⌝ }
-    ensures { λ r. ⌜ r ≡ spec.framed 3 (now (s .entry)) ⌝ }
+    ensures { λ r. ⌜ r ≡ spec.framed lowsIn 3 (now (s .entry)) ⌝ }
 {
     if s.len() == OWN_SHIP {
         Frame::Told(Call::OwnShip(fix_at(s, 2)))
@@ -129,8 +124,7 @@ fn own_ship_of(s: &[u8]) -> Frame
 
 // A frame of kind 04.
 fn track_of(s: &[u8]) -> Frame
-    requires { ⌜ allDigits (now s) ≡ true ⌝ }
-    ensures { λ r. ⌜ r ≡ spec.framed 4 (now (s .entry)) ⌝ }
+    ensures { λ r. ⌜ r ≡ spec.framed lowsIn 4 (now (s .entry)) ⌝ }
 {
     if s.len() == MOST_FRAME_DIGITS {
         Frame::Told(Call::Track(coordinates_at(s, 2), coordinates_at(s, 50)))
@@ -141,8 +135,7 @@ fn track_of(s: &[u8]) -> Frame
 
 // A frame of kind 05.
 fn solve_of(s: &[u8]) -> Frame
-    requires { ⌜ allDigits (now s) ≡ true ⌝ }
-    ensures { λ r. ⌜ r ≡ spec.framed 5 (now (s .entry)) ⌝ }
+    ensures { λ r. ⌜ r ≡ spec.framed lowsIn 5 (now (s .entry)) ⌝ }
 {
     if s.len() == NAMED {
         Frame::Told(Call::Solve(identity(s)))
@@ -162,15 +155,12 @@ fn asked(s: &[u8], frame: Frame) -> Frame
     }
 }
 
-// The frame that a line without its newline is; `digits` says whether the line is digits alone.
+// The frame that a line without its newline is, for who knows by `digits` whether it is digits alone: where it is not, and is said to be, bytes count by their low bits.
 pub fn read_known(s: &[u8], digits: bool) -> Frame
-    requires { ⌜ digits ≡ allDigits (now s) ⌝ }
-    ensures { λ r. ⌜ r ≡ spec.frameOf (now (s .entry)) ⌝ }
+    ensures { λ r. ⌜ r ≡ known.frameKnown digits (now (s .entry)) ⌝ }
+    ensures unchanged { λ r. ⌜ now (s .exit) ≡ now (s .entry) ⌝ }
 {
     if !digits {
-        return Frame::NotAFrame;
-    }
-    if s.len() < ASKED {
         return Frame::NotAFrame;
     }
     let kind = hex::two_at(s, 0);

@@ -17,6 +17,7 @@ use Rattle.sessions.specs.Quick.{sessionOf, Quickly}
 use Rattle.frames.specs.Stream.{Model, room}
 use Rattle.frames.specs.Whole.{newline}
 use Rattle.frames.proofs.Feeds.{opening-none, feeding, passed-fresh, ends-same, waits-room, waits-not}
+use Rattle.wire.proofs.Lines.{known-frame}
 use Rattle.sessions.proofs.Quicks.{session-parts, under-own, ids-long, quickly}
 use Rattle.frames.proofs.Turns.{Passed, passed-bytes, passed-step, passed-whole, answering-by, passed-from}
 use Rattle.frames.proofs.stream.lines.Statement.{statement}
@@ -56,9 +57,6 @@ part-read-known-start c = let p = c .before .before .line-at .ensures .ends-at .
 
 part-read-known-end : tie.Need-part-read-known-end Inv-loop μ-loop
 part-read-known-end c = let p = c .before .before .line-at .ensures .ends-at .passes in omega (arith, p .from, p .within)
-
-read-known-requires : tie.Need-read-known-requires Inv-loop μ-loop
-read-known-requires c κs = c .before .before .before .line-at .ensures .digits-are
 
 slice-aggregate-look : tie.Need-slice-aggregate-look Inv-loop μ-loop
 slice-aggregate-look c =
@@ -137,10 +135,11 @@ loop-again c =
     let at-line-at = c .before .before .before .before .before .before .before in
     let turn = at-line-at .before .before in
     let l = turn .loop in
-    let n = at-line-at .line-at .ensures .ends-at in
+    let span = at-line-at .line-at .ensures in
+    let n = span .ends-at in
     let t = goes (c .before .before .before .before .before) .0 in
     let e = n .ends t in
-    let f = c .before .before .before .read-known .ensures in
+    let f = c .before .before .before .read-known .ensures .0 ∙ known-frame _ (span .digits-are) in
     let u = l .inv .0 in
     let v = passed-bytes (l .inv .1) (n .passes) in
     let q = Quickly (l .started) (l .setting) (l .ids) (c .before .before .before .read-known .result) in
@@ -224,7 +223,7 @@ pub lines-spec : {M : Type 1} → statement M
 lines-spec =
     tie.close
     (tie.spec Inv-loop μ-loop (λ c κs. tt) (λ c κs. tt) loop-holds line-at-requires sub-waits (λ c κs. tt) sub-read-known part-read-known-start
-    part-read-known-end read-known-requires slice-aggregate-look (λ c κs. tt) (λ c. search needs) put-reply-line-requires (λ c. search needs)
+    part-read-known-end (λ c κs. tt) slice-aggregate-look (λ c κs. tt) (λ c. search needs) put-reply-line-requires (λ c. search needs)
     mul-entries array-set-from-entries put-reply-line-requires-2 (λ c. search needs) (λ c κs. tt) put-reply-line-requires-3 (λ c. search needs)
     (λ c κs. tt) answer-requires (λ c κs. tt) add-i loop-less loop-again end-of-line-requires sub-joined part-joined-start part-joined-end
     joined-requires (λ c κs. tt) sub-kept-of kept-of-requires same-length returns)

@@ -7,6 +7,4 @@ returns : tie.Need-returns
 returns c = cc
 
 pub coordinates-at-spec : {M : Type 1} → statement M
-coordinates-at-spec =
-    tie.close
-    (tie.spec (λ c κs. search needs) (λ c. search needs) (λ c κs. search needs) (λ c. search needs) (λ c κs. search needs) returns)
+coordinates-at-spec = tie.close (tie.spec (λ c κs. tt) (λ c. search needs) (λ c κs. tt) (λ c. search needs) (λ c κs. tt) returns)

@@ -7,6 +7,4 @@ returns : tie.Need-returns
 returns c = cc
 
 pub fix-at-spec : {M : Type 1} → statement M
-fix-at-spec =
-    tie.close
-    (tie.spec (λ c κs. search needs) (λ c. search needs) (λ c κs. search needs) (λ c. search needs) (λ c κs. search needs) returns)
+fix-at-spec = tie.close (tie.spec (λ c κs. search needs) (λ c. search needs) (λ c κs. tt) (λ c. search needs) (λ c κs. tt) returns)
