@@ -1,3 +1,4 @@
+pub mod Laid
 pub mod Positions
 pub mod Means
 pub mod Coordinates

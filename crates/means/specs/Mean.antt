@@ -1,11 +1,10 @@
 -- `mean_position` and `triangle_mean_position` of sphere.rs, over lists of positions, and the positions that coordinates stand for. Definitions only.
-use Prim.Native.Nat.{ℕ, _+_, _*_}
+use Prim.Native.Nat.{ℕ}
 use mathlib.Core.Bool.{Bool, false, cond, _||_}
 use mathlib.Core.List.{List, [], _∷_}
 use lib.Dec.{eqb}
-use lib.ListN.{getD}
 use lib.Ieee as Ieee
-use lib.Ieee.{Float, nan}
+use lib.Ieee.{Float}
 use Rattle.patterns.specs.Operators.{_⊕_}
 use Rattle.vectors.specs.Vec3 as vec3
 use Rattle.jord.specs.Positions.{nvectorNew, asVec3, antipode, isAntipodeOf, eq}
@@ -91,10 +90,6 @@ positions [] = []
 positions (x ∷ []) = []
 positions (x ∷ y ∷ []) = []
 positions (x ∷ y ∷ z ∷ cs) = nvectorNew (vec3.new x y z) ∷ positions cs
-
--- the i-th of them, where there are as many
-abbrev pub nthPosition : List Float → ℕ → NVector
-nthPosition cs i = nvectorNew (vec3.new (getD cs (3 * i) nan) (getD cs (3 * i + 1) nan) (getD cs (3 * i + 2) nan))
 
 -- "`mean_position` over a lent list of positions first takes coordinates"
 unfoldable pub meanPosition : List Float → Mean

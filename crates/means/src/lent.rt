@@ -34,7 +34,7 @@ pub fn mean_position_of(positions: &[NVector]) -> Mean
 }
 
 // The mean of n positions, none the antipode of one, by the last of them and their sum.
-fn mean_by(n: usize, last: NVector, sum: Vec3) -> Mean
+pub(crate) fn mean_by(n: usize, last: NVector, sum: Vec3) -> Mean
     ensures { λ r. ⌜ r ≡ spec.meanBy n last sum ⌝ }
 {
     if n == 0 {

@@ -4,4 +4,3 @@ pub mod Slots
 pub mod Loops
 pub mod Picks
 pub mod Columns
-pub mod Means
