@@ -9,7 +9,6 @@ use Rattle.jord.specs.Numbers.{EPSILON, eqZero}
 use Rattle.jord.specs.Angle.{fromRadians, QUARTER-CIRCLE, NEG-QUARTER-CIRCLE, NEG-HALF-CIRCLE, FULL-CIRCLE, normalised, normalisedTo}
 use Rattle.jord.specs.Length.{NM-TO-M, KM-TO-M}
 use Rattle.jord.specs.Speed.{KPH-TO-MPS, KNOTS-TO-MPS}
-use Rattle.vectors.specs.Vec3.{UNIT-X, NEG-UNIT-Y, orthogonal}
 
 -- "`eq_zero`: 2^-52 yes, 2^-51 no"
 pub eq-zero-yes : eqZero (fin false 1 (negsuc 51)) ≡ true
@@ -19,11 +18,6 @@ eq-zero-yes = refl
 pub eq-zero-no : eqZero (fin false 1 (negsuc 50)) ≡ false
 unfolding Ieee.le Ieee.sub ofBits
 eq-zero-no = refl
-
--- "`orthogonal` of X is -Y"
-pub orthogonal-of-x : orthogonal UNIT-X ≡ NEG-UNIT-Y
-unfolding orthogonal ofBits
-orthogonal-of-x = refl
 
 -- "`normalised` of a tiny negative angle gives 2π itself": here of -2^-1074
 pub normalised-tiny-negative : normalised (fromRadians (fin true 1 (negsuc 1073))) ≡ FULL-CIRCLE

@@ -1,4 +1,4 @@
--- sphere.rs: the public functions of `Sphere` over the ported types, but for the means; the walks are Walk's. Definitions only.
+-- sphere.rs: the public functions of `Sphere` over the ported types, but for the means; the times are those of crate walks, on the radius. Definitions only.
 use Prim.Native.Nat.{ℕ}
 use mathlib.Core.Bool.{Bool, cond, not, _&&_}
 use lib.Ieee as Ieee

@@ -18,6 +18,7 @@ use Rattle.vectors.specs.Vec3.{UNIT-X, UNIT-Y, UNIT-Z, NEG-UNIT-Y, orthogonal}
 use Rattle.jord.specs.Positions.{nvectorNew}
 use Rattle.jord.specs.Vehicle as vehicle
 use Rattle.jord.specs.Table as jords
+use Rattle.vectors.specs.Table as vectors
 use Rattle.jord.specs.declared.positions.NVector.{NVector}
 use Rattle.arcs.specs.Base.{side}
 use Rattle.spherical.specs.Interpolated as interpolated
@@ -66,7 +67,7 @@ table =
       root = roots.root-of-smallest;
       eq-zero-yes = jords.eq-zero-yes;
       eq-zero-no = jords.eq-zero-no;
-      orthogonal-of-x = jords.orthogonal-of-x;
+      orthogonal-of-x = vectors.orthogonal-of-x;
       side-left = arcs.side-left;
       side-right = arcs.side-right;
       side-equal-ends = arcs.side-equal-ends;

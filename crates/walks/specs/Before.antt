@@ -1,5 +1,5 @@
 -- The walks to an intercept before request 2026-05, and what of their answers the request keeps. Definitions only.
--- Before it a corrected time was accepted for a correction below 1e-11 alone. All else is as in Walk and Sphere.
+-- Before it a corrected time was accepted for a correction below 1e-11 alone. All else is as in Walk and Times.
 use Prim.Native.Nat.{ℕ, _-_}
 use mathlib.Core.Bool.{cond}
 use mathlib.Core.Logic.{_≢_}
