@@ -2,7 +2,6 @@
 use jord::angle::Angle;
 use jord::positions::LatLong;
 use jord::positions::NVector;
-use jord::speed::Speed;
 use jord::vehicle::Vehicle;
 use probe_fields::fields::float_at;
 use probe_fields::fields::nvector_at;
@@ -10,6 +9,7 @@ use probe_fields::fields::put_bool;
 use probe_fields::fields::put_float;
 use probe_fields::fields::put_gap;
 use probe_fields::fields::put_vec3;
+use probe_fields::fields::vehicle_at;
 
 // How many arguments a function takes.
 pub(crate) fn arity(f: u64) -> usize {
@@ -23,33 +23,44 @@ pub(crate) fn arity(f: u64) -> usize {
 
 // The result fields of a function, over the page from at on, and the place past them.
 pub(crate) fn answer(f: u64, args: &[u64], page: &mut [u8], at: usize) -> usize {
-    let x = float_at(args, 0);
-    let y = float_at(args, 1);
-    let p = nvector_at(args, 0);
     match f {
-        0x50 => put_lat_long(page, at, LatLong::from_degrees(x, y)),
-        0x51 => put_lat_long(page, at, LatLong::from_nvector(p)),
-        0x56 => put_bool(page, at, p.is_antipode_of(nvector_at(args, 3))),
-        0x66 => put_vehicle(
+        0x50 | 0x51 => put_lat_long(page, at, lat_long(f, args)),
+        0x56 => put_bool(
             page,
             at,
-            Vehicle::new(
-                p,
-                Angle::from_radians(float_at(args, 3)),
-                Speed::from_metres_per_second(float_at(args, 4)),
-            ),
+            nvector_at(args, 0).is_antipode_of(nvector_at(args, 3)),
         ),
-        _ => put_vec3(page, at, position(f, x, y, p).as_vec3()),
+        0x66 => put_vehicle(page, at, vehicle_at(args, 0)),
+        _ => put_vec3(page, at, position(f, args).as_vec3()),
     }
 }
 
-fn position(f: u64, x: f64, y: f64, p: NVector) -> NVector {
-    match f {
-        0x52 => LatLong::new(Angle::from_radians(x), Angle::from_radians(y)).to_nvector(),
-        0x53 => NVector::from_lat_long(Angle::from_radians(x), Angle::from_radians(y)),
-        0x54 => NVector::from_lat_long_degrees(x, y),
-        _ => p.antipode(),
+fn lat_long(f: u64, args: &[u64]) -> LatLong {
+    if f == 0x50 {
+        return LatLong::from_degrees(float_at(args, 0), float_at(args, 1));
     }
+    LatLong::from_nvector(nvector_at(args, 0))
+}
+
+fn position(f: u64, args: &[u64]) -> NVector {
+    if f == 0x54 {
+        return NVector::from_lat_long_degrees(float_at(args, 0), float_at(args, 1));
+    }
+    if f == 0x55 {
+        return nvector_at(args, 0).antipode();
+    }
+    at_angles(
+        f,
+        Angle::from_radians(float_at(args, 0)),
+        Angle::from_radians(float_at(args, 1)),
+    )
+}
+
+fn at_angles(f: u64, latitude: Angle, longitude: Angle) -> NVector {
+    if f == 0x52 {
+        return LatLong::new(latitude, longitude).to_nvector();
+    }
+    NVector::from_lat_long(latitude, longitude)
 }
 
 // Latitude and longitude in radians.

@@ -18,12 +18,18 @@ pub(crate) fn arity(f: u64) -> usize {
 
 // The result fields of a function, over the page from at on, and the place past them.
 pub(crate) fn answer(f: u64, args: &[u64], page: &mut [u8], at: usize) -> usize {
-    let x = float_at(args, 0);
-    let y = float_at(args, 1);
+    put_float(
+        page,
+        at,
+        amount(f, float_at(args, 0), float_at(args, 1), whole_at(args, 1)),
+    )
+}
+
+fn amount(f: u64, x: f64, y: f64, nanoseconds: u64) -> f64 {
     match f {
-        0x14..=0x19 => put_float(page, at, angle(f, x, y)),
-        0x1a..=0x22 => put_float(page, at, length(f, x, y)),
-        _ => put_float(page, at, speed(f, x, whole_at(args, 1))),
+        0x14..=0x19 => angle(f, x, y),
+        0x1a..=0x22 => length(f, x, y),
+        _ => speed(f, x, nanoseconds),
     }
 }
 
