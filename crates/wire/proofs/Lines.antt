@@ -30,7 +30,7 @@ unfolding framed
 no-size number kind s h = simp (h, same)
 
 -- fewer digits than a kind has are no frame
-short : (number : List ℕ → ℕ → ℕ → ℕ) (kind : ℕ) (s : List ℕ) → leb 2 (length s) ≡ false → framed number kind s ≡ NotAFrame
+pub short : (number : List ℕ → ℕ → ℕ → ℕ) (kind : ℕ) (s : List ℕ) → leb 2 (length s) ≡ false → framed number kind s ≡ NotAFrame
 short number kind s h = no-size number kind s (λ n t u. ne-eqb (length s) n (λ e. omega (arith, leb-true 2 n t, leb-false 2 (length s) h)))
 
 -- more digits than the longest frame has are no frame

@@ -163,6 +163,10 @@ pub fn read_known(s: &[u8], digits: bool) -> Frame
     if !digits {
         return Frame::NotAFrame;
     }
+    // No kind is that short: an empty line, the shortest of all, need not be looked at.
+    if s.len() < ASKED {
+        return Frame::NotAFrame;
+    }
     let kind = hex::two_at(s, 0);
     match kind {
         0 => fresh_of(s),
