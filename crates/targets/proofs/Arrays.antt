@@ -89,7 +89,15 @@ absent =
     record {
       identity = 0;
       held =
-          record { report = record { position = record { 0 = record { x = nan; y = nan; z = nan } }; bearing = record { radians = nan }; speed = record { mps = nan } }; line = Bare };
+          record {
+            report =
+                record {
+                  position = record { 0 = record { x = nan; y = nan; z = nan } };
+                  bearing = record { radians = nan };
+                  speed = record { mps = nan };
+                };
+            line = Bare;
+          };
     }
 
 -- a search of the first n of a list has passed i of them: it goes on past an identity below the one sought, and ends at one that is not,

@@ -25,7 +25,8 @@ atRest = vehicle.new (nvectorNew UNIT-X) angle.ZERO speed.ZERO
 
 -- "Radius 1.0 ..: closest approach 12, count 1"
 pub cpa-at-rest : timeToCpa (fromMetres one) atRest atRest ≡ ZeroDerivative 1
-unfolding timeToCpa walk course courseRx courseRy courseRz cpaCoefficients cpaNew sinesAt cpaFn cpaDerivate cpaStep mat33.mul mat33.vec3Mul nvectorToLatlong sqrt sin cos atan2 neg Ieee.lt Ieee.eq Ieee.add Ieee.sub Ieee.mul Ieee.div ofBits
+unfolding timeToCpa walk course courseRx courseRy courseRz cpaCoefficients cpaNew sinesAt cpaFn cpaDerivate cpaStep
+    mat33.mul mat33.vec3Mul nvectorToLatlong sqrt sin cos atan2 neg Ieee.lt Ieee.eq Ieee.add Ieee.sub Ieee.mul Ieee.div ofBits
 cpa-at-rest = refl
 
 pub one-milli-hours : oneMilliHours ≡ whole 1 ⊘ (whole 3600 ⊗ whole 1000)

@@ -184,7 +184,8 @@ module _ {M : Type 1} (𝓤 : URA M) (H : Heap 𝓤) (A : Atoms 𝓤) (W : Given
         facts ! Six (Is Six) (shows 𝓤 H A Six) xs us (λ iu.
         rewrite ! 0 (λ (ws : List Val). ‵ (cellAt fullShare (Six .mir) ws l₃ 0)) (array-tells T.the-row tvals (LL.tells T.the-type T′.the-laws) 6 xs us iu) refl $
         use1 W (‵ (fat fullShare array l₃ 0 v)) (W .laws .raw-at fullShare array l₃ 0 v) $
-        returns ! (look ! 18 refl) $ forget ! 0 refl $ forget ! 5 refl $ forget ! 7 refl $ forget ! 9 refl $ forget ! 11 refl $ forget ! 14 refl $ forget ! 16 refl $ forget ! 18 refl $
+        returns ! (look ! 18 refl) $ forget ! 0 refl $ forget ! 5 refl $ forget ! 7 refl $ forget ! 9 refl $ forget ! 11 refl $
+        forget ! 14 refl $ forget ! 16 refl $ forget ! 18 refl $
         move ! (18 ∷ 19 ∷ []) $ free1 ! $ move ! (16 ∷ 17 ∷ []) $ free1 ! $ move ! (14 ∷ 15 ∷ []) $ free1 ! $ move ! (0 ∷ 13 ∷ []) $ free1 ! $
         move ! (10 ∷ 11 ∷ []) $ free1 ! $ move ! (8 ∷ 9 ∷ []) $ free1 ! $ move ! (6 ∷ 7 ∷ []) $ free1 ! $ move ! (4 ∷ 5 ∷ []) $ free1 ! $ free0 ! $
         keep ! (0 ∷ []) $ by ! (exits r u))))))))))))))))))
