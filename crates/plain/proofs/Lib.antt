@@ -9,3 +9,4 @@ pub mod Exchange
 pub mod Demand3
 pub mod Played
 pub mod Listed
+pub mod Order
