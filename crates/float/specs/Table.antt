@@ -1,7 +1,7 @@
 -- Rows of document 01's table that concern the float ground, and the infinities and signed zeros beside them.
 use mathlib.Core.Path.{_≡_, refl}
 use mathlib.Core.Bool.{Bool, true, false}
-use lib.IntN.{pos, negsuc}
+use lib.IntN.{pos}
 use lib.Ieee.{Float, nan, inf, fin, binary64, mul, div, rem, ofBits, ofInt}
 use Rattle.patterns.specs.Operators.{pi, whole}
 use Rattle.float.specs.Trig.{sin, cos, atan2}

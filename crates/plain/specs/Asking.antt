@@ -1,6 +1,6 @@
 -- What is asked of a plain board: its mean position, and a pick. Definitions only.
 use Prim.Native.Nat.{ℕ, _≤_}
-use mathlib.Core.List.{List, [], _∷_, map, List·Memᴰ}
+use mathlib.Core.List.{List, map, List·Memᴰ}
 use mathlib.Core.Option.{Option, some, none}
 use mathlib.Core.Path.{_≡_}
 use Rattle.jord.specs.declared.positions.NVector.{NVector}

@@ -1,13 +1,13 @@
 -- The targets that stand in the array, after a store, an insertion, a removal and a clearing of it.
 use Prim.Native.Nat.{ℕ, zero, suc, _+_, _-_, _≤_, _<_}
-use native.Mathlib.Nat.{zero-add, suc-add, min-le-left}
+use native.Mathlib.Nat.{zero-add, suc-add}
 use native.Mathlib.Numerals.{add-one}
 use native.Mathlib.Omega.{arith}
 use mathlib.Core.Path.{_≡_, refl, sym, ap, _∙_}
-use mathlib.Core.Bool.{Bool, true, false, cond}
+use mathlib.Core.Bool.{Bool, true, false}
 use mathlib.Core.List.{List, [], _∷_, _++_, map}
 use lib.Dec.{ltb}
-use lib.ListN.{length, take, drop, set, getD, length-take, length-append, length-drop, length-set}
+use lib.ListN.{length, take, drop, set, getD, length-append, length-drop, length-set}
 use lib.Seq.{take-take, take-append-add, take-append-le, length-take-le, take-nil, take-set-lt, getD-take, take-all}
 use borrow.Author.Tests.{ltb-true, ltb-false}
 use Rattle.plain.specs.declared.targets.Held.{Held}

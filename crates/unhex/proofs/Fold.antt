@@ -2,9 +2,10 @@
 use Prim.Native.Nat.{ℕ, zero, suc, _+_, _-_, _*_, _/_, _%_, _^_, _≤_, _<_}
 use mathlib.Core.List.{List}
 use mathlib.Core.Path.{_≡_, refl, sym, ap, ap₂, _∙_}
-use native.Mathlib.Nat.{add-zero, mod-lt, mod-eq-of-lt, lt-of-lt-of-le, mul-le-mul-left, mul-le-mul-right}
+use native.Mathlib.Nat.{add-zero, mod-lt, lt-of-lt-of-le, mul-le-mul-left, mul-le-mul-right, pow-suc, pow-le-pow-right}
 use native.Mathlib.Omega.{arith}
 use lib.Bits.{bitAnd, and-block, and-mask}
+use lib.Dec.{lit<}
 use lib.ListN.{getD}
 use lib.Pow.{pow-pos, pow-mono, pow-add, split, high, low, shr-shr, field, mod-mod-pow, ones-lt}
 use Rattle.unhex.specs.Digits.{lowOf, lowsAt, lowsOf}
@@ -102,15 +103,49 @@ low-one : (s : List ℕ) (at : ℕ) → lowsAt s at 1 ≡ lowOf (getD s at 0)
 unfolding lowsAt
 low-one s at = rw (add-zero at) (omega arith)
 
--- a word made of the bytes of s from its end on: the last, and one more before it
-pub word-last : (s : List ℕ) (at : ℕ) {b : ℕ} → (b ≡ getD s at 0) × (b < 256) → lowsOf 1 b ≡ lowsAt s at 1
-unfolding lowsOf
-word-last s at w = rw (mod-eq-of-lt (w .1), w .0, low-one s at) (omega arith)
+four-bits : (n : ℕ) → 2 ^ (4 * n) ≡ 16 ^ n
+four-bits zero = refl
+four-bits (suc n) =
+    let m : 4 * suc n ≡ 4 * n + 4 = omega arith in
+    ap (λ (k : ℕ). 2 ^ k) m ∙ pow-add 2 (4 * n) 4 ∙ ap (λ (k : ℕ). k * 16) (four-bits n) ∙ sym (pow-suc 16 n)
 
-pub word-on : (s : List ℕ) (at next n v : ℕ) {b : ℕ} → (b ≡ getD s at 0) × (b < 256) → next ≡ at + 1 → 2 ^ (4 * n) ≡ 16 ^ n
-    → lowsOf n v ≡ lowsAt s next n → lowsOf (suc n) (v * 256 + b) ≡ lowsAt s at (suc n)
+-- v is made of the n bytes of s from `at` on, the first lowest
+pub record Word (s : List ℕ) (at n v : ℕ) : Type 0 where
+  pub small : v < 256 ^ n
+  pub lows : lowsOf n v ≡ lowsAt s at n
+
+pub word-none : (s : List ℕ) (at : ℕ) → Word s at 0 0
+unfolding lowsOf lowsAt
+word-none s at = record { small = lit< tt; lows = refl }
+
+-- one more byte before those that are there
+word-more : (s : List ℕ) (at n v : ℕ) {b : ℕ} → b ≡ getD s at 0 → b < 256 → Word s (at + 1) n v → Word s at (suc n) (v * 256 + b)
 unfolding lowsOf
-word-on s at next n v w e p h =
+word-more s at n v e l w =
     let m : 1 + n ≡ suc n = omega arith in
-    rw (high v 8 (w .1), low v 8 (w .1), w .0, h, e, p)
-    (sym (ap (lowsAt s at) (sym m) ∙ halves lows-reads s at 1 n ∙ ap (λ (d : ℕ). d * 16 ^ n + lowsAt s (at + 1) n) (low-one s at)))
+    record {
+      small = omega (arith, pow-suc 256 n, w .small);
+      lows = rw (high v 8 l, low v 8 l, e, w .lows, four-bits n)
+          (sym (ap (lowsAt s at) (sym m) ∙ halves lows-reads s at 1 n ∙ ap (λ (d : ℕ). d * 16 ^ n + lowsAt s (at + 1) n) (low-one s at)));
+    }
+
+-- the loop's step, from the last of eight bytes to the first
+pub word-next : (s : List ℕ) (at i v : ℕ) {b : ℕ} → 0 < i → i ≤ 8 → b ≡ getD s (at + (i - 1)) 0 → b < 256 → Word s (at + i) (8 - i) v
+    → Word s (at + (i - 1)) (8 - (i - 1)) (v * 256 + b)
+word-next s at i v {b} h k e l w =
+    let p : at + i ≡ at + (i - 1) + 1 = omega arith in
+    let q : 8 - (i - 1) ≡ suc (8 - i) = omega arith in
+    rw q (word-more s (at + (i - 1)) (8 - i) v e l (rw (← p) w))
+
+-- while there are fewer than eight one more fits 64 bits
+pub word-room : (s : List ℕ) (at i v : ℕ) → 0 < i → Word s at (8 - i) v → v * 256 + 256 ≤ 2 ^ 64
+word-room s at i v h w =
+    let l : suc (8 - i) ≤ 8 = omega arith in
+    let a : 256 ^ suc (8 - i) ≤ 256 ^ 8 = pow-le-pow-right {n = 256} (lit< tt) l in
+    omega (arith, pow-suc 256 (8 - i), w .small)
+
+pub word-whole : (s : List ℕ) (at i v : ℕ) → i ≡ 0 → Word s (at + i) (8 - i) v → lowsOf 8 v ≡ lowsAt s at 8
+word-whole s at i v z w =
+    let p : at + i ≡ at = omega arith in
+    let q : 8 - i ≡ 8 = omega arith in
+    (rw (p, q) at w) .lows

@@ -123,28 +123,18 @@ fn lows_of(s: &[u8]) -> u64
     v
 }
 
-// The byte of s at i, as a word.
-fn wide(s: &[u8], i: usize) -> u64
-    requires { ⌜ i < length (now s) ⌝ }
-    ensures { λ r. ⌜ (r ≡ getD (now (s .entry)) i 0) × (r < 256) ⌝ }
-{
-    s[i] as u64
-}
-
 // The eight bytes of s from at on as one word, the first byte lowest: the compiler makes one load of them.
 fn eight(s: &[u8], at: usize) -> u64
     requires { ⌜ at + 8 ≤ length (now s) ⌝ }
     ensures { λ r. ⌜ lowsOf 8 r ≡ lowsAt (now (s .entry)) at 8 ⌝ }
 {
-    let a = wide(s, at);
-    let b = wide(s, at + 1);
-    let c = wide(s, at + 2);
-    let d = wide(s, at + 3);
-    let e = wide(s, at + 4);
-    let f = wide(s, at + 5);
-    let g = wide(s, at + 6);
-    let h = wide(s, at + 7);
-    (((((((h * 256 + g) * 256 + f) * 256 + e) * 256 + d) * 256 + c) * 256 + b) * 256) + a
+    let mut v: u64 = 0;
+    let mut i: usize = 8;
+    while i > 0 {
+        i -= 1;
+        v = v * 256 + s[at + i] as u64;
+    }
+    v
 }
 
 // The number of a word's eight bytes by their low bits, all at once: each byte becomes its low bits, and then neighbours are joined,

@@ -127,11 +127,11 @@ abbrev pub crossProdUnit : Vec3 → Vec3 → Vec3
 crossProdUnit v o = crossed newUnit v o
 
 -- a = v2 + v1, with v1 for v and v2 for o
-abbrev sums : Vec3 → Vec3 → Vec3
+abbrev pub sums : Vec3 → Vec3 → Vec3
 sums v o = parts (o .x ⊕ v .x) (o .y ⊕ v .y) (o .z ⊕ v .z)
 
 -- b = v2 - v1
-abbrev differences : Vec3 → Vec3 → Vec3
+abbrev pub differences : Vec3 → Vec3 → Vec3
 differences v o = parts (o .x ⊖ v .x) (o .y ⊖ v .y) (o .z ⊖ v .z)
 
 -- a x b, through Vec3::new

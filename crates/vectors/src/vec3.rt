@@ -179,44 +179,40 @@ impl Vec3 {
     pub fn stable_cross_prod_unit(self, o: Vec3) -> Self
         ensures { λ r. ⌜ r ≡ spec.stableCrossProdUnit self o ⌝ }
     {
-        // a = o + self
-        let xa = o.x + self.x;
-        let ya = o.y + self.y;
-        let za = o.z + self.z;
-
-        // b = o - self
-        let xb = o.x - self.x;
-        let yb = o.y - self.y;
-        let zb = o.z - self.z;
-
-        // a x b
-        let x = ya * zb - za * yb;
-        let y = za * xb - xa * zb;
-        let z = xa * yb - ya * xb;
-
-        Vec3::new_unit(x, y, z)
+        let a = self.sums(o);
+        let b = self.differences(o);
+        a.cross_prod_unit(b)
     }
 
     // (o + self) x (o - self), twice the cross product, and stable where the two are nearly parallel.
     pub fn stable_cross_prod(self, o: Vec3) -> Self
         ensures { λ r. ⌜ r ≡ spec.stableCrossProd self o ⌝ }
     {
-        // a = o + self
-        let xa = o.x + self.x;
-        let ya = o.y + self.y;
-        let za = o.z + self.z;
+        let a = self.sums(o);
+        let b = self.differences(o);
+        a.cross_prod(b)
+    }
 
-        // b = o - self
-        let xb = o.x - self.x;
-        let yb = o.y - self.y;
-        let zb = o.z - self.z;
+    // o + self, a part of -0.0 kept.
+    fn sums(self, o: Vec3) -> Self
+        ensures { λ r. ⌜ r ≡ spec.sums self o ⌝ }
+    {
+        Vec3 {
+            x: o.x + self.x,
+            y: o.y + self.y,
+            z: o.z + self.z,
+        }
+    }
 
-        // a x b
-        let x = ya * zb - za * yb;
-        let y = za * xb - xa * zb;
-        let z = xa * yb - ya * xb;
-
-        Vec3::new(x, y, z)
+    // o - self, a part of -0.0 kept.
+    fn differences(self, o: Vec3) -> Self
+        ensures { λ r. ⌜ r ≡ spec.differences self o ⌝ }
+    {
+        Vec3 {
+            x: o.x - self.x,
+            y: o.y - self.y,
+            z: o.z - self.z,
+        }
     }
 
     // The length squared.

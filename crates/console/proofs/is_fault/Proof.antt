@@ -1,6 +1,6 @@
 -- `is_fault` meets its contract: a number below zero has bits far above those of `EPIPE`.
 use mathlib.Core.Path.{_≡_, refl}
-use mathlib.Core.Bool.{Bool, not}
+use mathlib.Core.Bool.{not}
 use native.Mathlib.Omega.{arith}
 use borrow.Author.Tests.{ne-eqb}
 use lib.Dec.{eqb}

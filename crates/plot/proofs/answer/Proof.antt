@@ -1,5 +1,4 @@
 -- What came is poured; where nothing did, the stream stays.
-use mathlib.Core.Path.{_≡_, ap}
 use borrow.Author.Needs.{needs}
 use mir.Syntax.{w64}
 use mir.ValLaws.{toZ-ofZ}
