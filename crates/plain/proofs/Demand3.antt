@@ -15,7 +15,7 @@ use Rattle.plain.specs.declared.targets.Found.the-variants.{Nothing, The
 use Rattle.plain.specs.declared.call.Call.{Call}
 use Rattle.plain.specs.Targets.{mostTargets, find}
 use Rattle.plain.specs.Board.{fresh, run}
-use Rattle.plain.specs.Asking.{mean}
+use Rattle.plain.specs.Asking.{mean, pick}
 use Rattle.plain.specs.History.{heard, LastReported, lastLine}
 use Rattle.plain.specs.Exchange.{identities, MayExchange}
 use Rattle.plain.specs.Demand3.{Demand3, Alike, Stands, Holds}
@@ -25,6 +25,7 @@ use Rattle.plain.proofs.Room.{room-run}
 use Rattle.plain.proofs.History.{reportOf, lineOf, lastReport, run-report, run-line, run-total}
 use Rattle.plain.proofs.Counts.{answers-fit, last-fits}
 use Rattle.plain.proofs.Words.{last-reported}
+use Rattle.plain.proofs.Picks.{pick-is}
 use Rattle.plain.proofs.Exchange.{Sound, exchange-list, within-identities}
 
 fresh-fit : (r : Float) → Fit (fresh r)
@@ -68,7 +69,7 @@ module _ (r : Float) (cs : List Call) where
   alike fits ps m =
       let sound : Sound (identities cs) (fresh r) = record { fit = fresh-fit r; all-known = empty-known (identities cs) } in
       let both = exchange-list (identities cs) fits (fresh r) ps cs sound (within-identities cs) m in
-      record { same-board = both .0; same-mean = ap mean (both .0); same-answers = both .1 }
+      record { same-board = both .0; same-mean = ap mean (both .0); same-pick = ap pick (both .0); same-answers = both .1 }
 
 pub demand-3 : (r : Float) (cs : List Call) → Demand3 r cs
 demand-3 r cs =
@@ -80,5 +81,6 @@ demand-3 r cs =
       counts-handed-out = answers-fit (fresh r) cs;
       counts-standing = λ i h e. rw (held-line r cs i h e) (last-fits i (fresh r) cs Bare tt);
       total = unfold fresh in omega (arith, run-total (fresh r) cs (unfold fresh in omega arith));
+      picks = pick-is 1 (run (fresh r) cs .targets) (fit-run (fresh r) cs (fresh-fit r) .rising);
       exchange = alike r cs;
     }

@@ -6,6 +6,7 @@ pub mod History
 pub mod Counts
 pub mod Words
 pub mod Exchange
+pub mod Picks
 pub mod Demand3
 pub mod Played
 pub mod Listed

@@ -11,7 +11,7 @@ use Rattle.plain.specs.declared.call.Call.{Call}
 use Rattle.plain.specs.declared.call.Answer.{Answer}
 use Rattle.plain.specs.Board.{Plain, fresh, answer, accepted, outcome, after, run, answers}
 use Rattle.plain.specs.Code.{plain, cut, Played, ended, then, paired, RunsAlike, Demanded}
-use Rattle.plain.specs.Asking.{mean}
+use Rattle.plain.specs.Asking.{mean, pick}
 use Rattle.plain.specs.History.{Heard, heard, accepts}
 use Rattle.plain.specs.Exchange.{identities, exchanged, MayExchange}
 use Rattle.plain.proofs.Listed.{listed-le}
@@ -74,6 +74,7 @@ runs-alike r cs rs last q fits ps m rs' last' q' =
     record {
       same-board = same;
       same-mean = ap mean same;
+      same-pick = ap pick same;
       same-answers =
           ap (paired (exchanged ps cs)) (q' .0) ∙ paired-heard (fresh r) (exchanged ps cs) ∙ a .same-answers
           ∙ ap (exchanged ps) (sym (ap (paired cs) (q .0) ∙ paired-heard (fresh r) cs));

@@ -11,7 +11,7 @@ use Rattle.plain.specs.declared.call.Call.{Call}
 use Rattle.plain.specs.declared.call.Answer.{Answer}
 use Rattle.plain.specs.Targets.{mostTargets, listed}
 use Rattle.plain.specs.Board.{Plain, fresh, answer, after, run, answers}
-use Rattle.plain.specs.Asking.{mean}
+use Rattle.plain.specs.Asking.{mean, pick}
 use Rattle.plain.specs.History.{Heard, accepts}
 use Rattle.plain.specs.Exchange.{identities, exchanged, MayExchange}
 use Rattle.plain.specs.Demand3.{Demand3}
@@ -51,6 +51,7 @@ pub record RunsAlike (ps : List ℕ) (cs : List Call) (rs : List Answer) (last :
   -- "the boards left are equal in all the state": they stand for the same plain board
   pub same-board : plain last' ≡ plain last
   pub same-mean : mean (plain last') ≡ mean (plain last)
+  pub same-pick : pick (plain last') ≡ pick (plain last)
   -- "An exchanged call keeps its answer"
   pub same-answers : paired (exchanged ps cs) rs' ≡ exchanged ps (paired cs rs)
 

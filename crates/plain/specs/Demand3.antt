@@ -19,7 +19,7 @@ use Rattle.plain.specs.declared.call.Answer.the-variants.{Done, Solved, 
 use Rattle.plain.specs.Line.{totals}
 use Rattle.plain.specs.Targets.{mostTargets, find, RisingFrom}
 use Rattle.plain.specs.Board.{Plain, fresh, run, answers}
-use Rattle.plain.specs.Asking.{mean}
+use Rattle.plain.specs.Asking.{mean, pick, PickIs}
 use Rattle.plain.specs.History.{heard, handedOut, LastReported, lastLine}
 use Rattle.plain.specs.Exchange.{identities, exchanged, MayExchange}
 
@@ -53,10 +53,12 @@ pub record Stands (b : Plain) (i : ℕ) (v : Vehicle) : Type 0 where
   pub line : Lined
   pub there : Holds b i (record { report = v; line = line })
 
--- "The two are alike in the board they leave, in its mean position and in the answer to each call"
+-- "The two are alike in the board they leave, in its mean position and in the answer to each call"; "Two passes that differ only by demand
+-- 3's exchanges, within its 64 identities, then send both ships to one buoy"
 pub record Alike (r : Float) (cs : List Call) (ps : List ℕ) : Type 0 where
   pub same-board : run (fresh r) (exchanged ps cs) ≡ run (fresh r) cs
   pub same-mean : mean (run (fresh r) (exchanged ps cs)) ≡ mean (run (fresh r) cs)
+  pub same-pick : pick (run (fresh r) (exchanged ps cs)) ≡ pick (run (fresh r) cs)
   -- an exchanged call keeps its answer: the calls of the exchanged list with their answers are those of the list, exchanged
   pub same-answers : heard (fresh r) (exchanged ps cs) ≡ exchanged ps (heard (fresh r) cs)
 
@@ -77,6 +79,8 @@ pub record Demand3 (r : Float) (cs : List Call) : Type 0 where
   pub counts-standing : (i : ℕ) (h : Held) → Holds (run (fresh r) cs) i h → LineFits (h .line)
   -- "the step total equals, modulo 2^32, the sum of all counts handed out"
   pub total : run (fresh r) cs .total ≡ handedOut (answers (fresh r) cs) % totals
+  -- "Pick must return the lowest identity among the targets whose found time is least"
+  pub picks : PickIs (run (fresh r) cs .targets)
   -- "Where such a list names at most 64 identities, take any list made from it by exchanging neighbours that name different targets,
   -- however many times"
   pub exchange : length (identities cs) ≤ mostTargets → (ps : List ℕ) → MayExchange ps cs → Alike r cs ps

@@ -3,7 +3,7 @@ ghost use mathlib.Core.Path.{_≡_};
 ghost use Rattle.plain.specs.Asking as spec;
 use crate::call::Refusal;
 
-// A target whose meeting time is least, or why there is none.
+// The target of the lowest identity among those whose found meeting time is least, or why there is none.
 pub enum Choice {
     Target(u16),
     Refused(Refusal),

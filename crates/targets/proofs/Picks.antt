@@ -1,131 +1,128 @@
--- The least of the meeting times, one target after the other, is a pick.
-use Prim.Native.Nat.{ℕ, _≤_}
+-- The least of the meeting times, one target after the other, the earlier kept among equals, is the pick.
+use Prim.Native.Nat.{ℕ, _≤_, _<_, min}
 use native.Mathlib.Omega.{arith}
+use native.Mathlib.Nat.{min-eq-left, min-eq-right}
 use mathlib.Core.Bool.{Bool, true, false, cond}
-use mathlib.Core.List.{List, [], _∷_, List·Memᴰ, List·Memᴰ·head, List·Memᴰ·tail, List·Memᴰ·cases-cons, List·Memᴰ·not-nil}
-use mathlib.Core.Logic.{_⊎_, inl, inr}
+use mathlib.Core.List.{List, [], _∷_}
 use mathlib.Core.Option.{Option, some, none}
-use mathlib.Core.Path.{_≡_, refl, sym, _∙_, ap}
+use mathlib.Core.Path.{_≡_, refl, sym, _∙_, ap, subst}
 use lib.Dec.{ltb}
-use borrow.Author.Tests.{ltb-true, ltb-false}
+use borrow.Author.Tests.{ltb-true, ltb-false, lt-ltb, le-ltb, eq-eqb, ne-eqb}
 use Rattle.means.specs.Mean.{fold}
 use Rattle.plain.specs.declared.targets.Target.{Target}
 use Rattle.plain.specs.declared.call.Refusal.the-variants.{NoMeeting}
+use Rattle.plain.specs.declared.asking.Choice.{Choice}
 use Rattle.plain.specs.declared.asking.Choice.the-variants as choice
 use Rattle.targets.specs.declared.asking.Best.{Best}
 use Rattle.targets.specs.declared.asking.Best.the-variants.{Missing, At}
-use Rattle.plain.specs.Asking.{meetingTime, Picked}
+use Rattle.plain.specs.Asking.{meetingTime, lesser, leastTime, firstAt, pickAt, pickOf}
 use Rattle.targets.specs.Asking.{sooner, betterBy, better}
 
-none-some : (r : ℕ) → _≡_ {A = Option ℕ} none (some r) → ⊥
-none-some r e = let z : _≡_ {A = ℕ} 0 1 = cc in omega arith
+-- the better of two, the first where their times are equal
+join : Best → Best → Best
+join Missing c = c
+join (At i s) Missing = At i s
+join (At i s) (At j m) = sooner (At i s) j m
 
--- the least time of those seen
-record LeastIn (seen : Target → Type 0) (i s : ℕ) : Type 0 where
-  target : Target
-  is-seen : seen target
-  named : target .identity ≡ i
-  meets : meetingTime target ≡ some s
-  least : (u : Target) (r : ℕ) → seen u → meetingTime u ≡ some r → s ≤ r
+-- of one target
+one : ℕ → Option ℕ → Best
+one i none = Missing
+one i (some s) = At i s
 
-abbrev BestIn : (Target → Type 0) → Best → Type 0
-BestIn seen Missing = (u : Target) → seen u → meetingTime u ≡ none
-BestIn seen (At i s) = LeastIn seen i s
+-- of a list, from its end
+best : List Target → Best
+best [] = Missing
+best (t ∷ l) = join (one (t .identity) (meetingTime t)) (best l)
 
--- what is best of the targets seen is best of the same targets seen otherwise
-same-seen : (p q : Target → Type 0) → ((u : Target) → p u → q u) → ((u : Target) → q u → p u) → (b : Best) → BestIn p b → BestIn q b
-same-seen p q to from Missing h = λ u s. h u (from u s)
-same-seen p q to from (At i s) h =
-    record {
-      target = h .target;
-      is-seen = to (h .target) (h .is-seen);
-      named = h .named;
-      meets = h .meets;
-      least = λ u r k e. h .least u r (from u k) e;
-    }
+-- ---- one after the other from the front is the same as from the end
 
-abbrev And : (Target → Type 0) → Target → Target → Type 0
-And p t u = p u ⊎ (u ≡ t)
+module _ (i s j m k p : ℕ) where
+  join-both : (a b : Bool) → ltb m s ≡ a → ltb p m ≡ b → join (join (At i s) (At j m)) (At k p) ≡ join (At i s) (join (At j m) (At k p))
+  unfolding join
+  join-both true true e f = simp (e, f, lt-ltb p s (omega (arith, ltb-true m s e, ltb-true p m f)))
+  join-both true false e f = simp (e, f)
+  join-both false true e f = simp (e, f)
+  join-both false false e f = simp (e, f, le-ltb p s (omega (arith, ltb-false m s e, ltb-false p m f)))
 
--- one that has no time
-unmet : (p : Target → Type 0) (t : Target) → meetingTime t ≡ none → (b : Best) → BestIn p b → BestIn (And p t) b
-unmet p t e Missing h = λ u k. go u k
+join-assoc : (a b c : Best) → join (join a b) c ≡ join a (join b c)
+unfolding join
+join-assoc Missing b c = refl
+join-assoc (At i s) Missing c = refl
+join-assoc (At i s) (At j m) Missing = go (ltb m s)
   where
-    go : (u : Target) → And p t u → meetingTime u ≡ none
-    go u (inl k) = h u k
-    go u (inr k) = rw k e
-unmet p t e (At i s) h =
-    record { target = h .target; is-seen = inl (h .is-seen); named = h .named; meets = h .meets; least = λ u r k q. go u r k q }
+    go : (t : Bool) → join (cond t (At j m) (At i s)) Missing ≡ cond t (At j m) (At i s)
+    go true = refl
+    go false = refl
+join-assoc (At i s) (At j m) (At k p) = join-both i s j m k p (ltb m s) (ltb p m) refl refl
+
+better-join : (b : Best) (i : ℕ) (o : Option ℕ) → betterBy b i o ≡ join b (one i o)
+unfolding join one
+better-join Missing i none = refl
+better-join (At j m) i none = refl
+better-join Missing i (some s) = refl
+better-join (At j m) i (some s) = refl
+
+fold-best : (b : Best) (l : List Target) → fold better b l ≡ join b (best l)
+unfolding best join
+fold-best b [] = go b
   where
-    go : (u : Target) (r : ℕ) → And p t u → meetingTime u ≡ some r → s ≤ r
-    go u r (inl k) q = h .least u r k q
-    go u r (inr k) q = absurd (none-some r (sym (ap meetingTime k ∙ e) ∙ q))
+    go : (c : Best) → c ≡ join c Missing
+    go Missing = refl
+    go (At i s) = refl
+fold-best b (t ∷ l) =
+    fold-best (better b t) l ∙ ap (λ (c : Best). join c (best l)) (better-join b (t .identity) (meetingTime t))
+    ∙ join-assoc b (one (t .identity) (meetingTime t)) (best l)
 
--- one that has a time
-time-of : (t u : Target) (s r : ℕ) → meetingTime t ≡ some s → u ≡ t → meetingTime u ≡ some r → s ≡ r
-time-of t u s r e k q = let z : some s ≡ some r = sym (ap meetingTime k ∙ e) ∙ q in cc
+-- ---- the best of a list is its pick
 
-met : (p : Target → Type 0) (t : Target) (s : ℕ) → meetingTime t ≡ some s → (b : Best) → BestIn p b → BestIn (And p t) (sooner b (t .identity) s)
-met p t s e Missing h = record { target = t; is-seen = inr refl; named = refl; meets = e; least = λ u r k q. go u r k q }
-  where
-    go : (u : Target) (r : ℕ) → And p t u → meetingTime u ≡ some r → s ≤ r
-    go u r (inl k) q = absurd (none-some r (sym (h u k) ∙ q))
-    go u r (inr k) q = omega (arith, time-of t u s r e k q)
-met p t s e (At j m) h = go (ltb s m) refl
-  where
-    go : (c : Bool) → ltb s m ≡ c → BestIn (And p t) (cond c (At (t .identity) s) (At j m))
-    go true x = record { target = t; is-seen = inr refl; named = refl; meets = e; least = λ u r k q. new u r k q }
-      where
-        new : (u : Target) (r : ℕ) → And p t u → meetingTime u ≡ some r → s ≤ r
-        new u r (inl k) q = omega (arith, h .least u r k q, ltb-true s m x)
-        new u r (inr k) q = omega (arith, time-of t u s r e k q)
-    go false x = record { target = h .target; is-seen = inl (h .is-seen); named = h .named; meets = h .meets; least = λ u r k q. old u r k q }
-      where
-        old : (u : Target) (r : ℕ) → And p t u → meetingTime u ≡ some r → m ≤ r
-        old u r (inl k) q = h .least u r k q
-        old u r (inr k) q = omega (arith, time-of t u s r e k q, ltb-false s m x)
+-- b has the least time of l, and the first target that has it
+abbrev Tells : List Target → Best → Type 0
+Tells l Missing = leastTime l ≡ none
+Tells l (At i s) = (leastTime l ≡ some s) × (firstAt s l ≡ choice.Target i)
 
-one-more : (p : Target → Type 0) (b : Best) (t : Target) → BestIn p b → BestIn (And p t) (better b t)
-one-more p b t h = go (meetingTime t) refl
-  where
-    go : (o : Option ℕ) → meetingTime t ≡ o → BestIn (And p t) (betterBy b (t .identity) o)
-    go none e = unmet p t e b h
-    go (some s) e = met p t s e b h
+module _ (t : Target) (l : List Target) where
+  -- a head without a time
+  unmet : meetingTime t ≡ none → (b : Best) → Tells l b → Tells (t ∷ l) b
+  unfolding leastTime firstAt
+  unmet e Missing h = rw e h
+  unmet e (At i s) h = (rw e (h .0), rw e (h .1))
 
-all-of : (p : Target → Type 0) (b : Best) (l : List Target) → BestIn p b → BestIn (λ u. p u ⊎ List·Memᴰ u l) (fold better b l)
-all-of p b [] h = same-seen p (λ u. p u ⊎ List·Memᴰ u []) (λ u k. inl k) back b h
-  where
-    back : (u : Target) → p u ⊎ List·Memᴰ u [] → p u
-    back u (inl k) = k
-    back u (inr k) = absurd (List·Memᴰ·not-nil k)
-all-of p b (t ∷ l) h =
-    same-seen (λ u. And p t u ⊎ List·Memᴰ u l) (λ u. p u ⊎ List·Memᴰ u (t ∷ l)) to back (fold better (better b t) l)
-    (all-of (And p t) (better b t) l (one-more p b t h))
-  where
-    to : (u : Target) → And p t u ⊎ List·Memᴰ u l → p u ⊎ List·Memᴰ u (t ∷ l)
-    to u (inl (inl k)) = inl k
-    to u (inl (inr k)) = inr (List·Memᴰ·head k)
-    to u (inr k) = inr (List·Memᴰ·tail k)
+  -- a head with the time s
+  met : (s : ℕ) → meetingTime t ≡ some s → (b : Best) → Tells l b → Tells (t ∷ l) (join (At (t .identity) s) b)
+  unfolding leastTime firstAt join
+  met s e Missing h = (rw (e, h), rw (e, eq-eqb s s refl))
+  met s e (At j m) h = go (ltb m s) refl
+    where
+      least : leastTime (t ∷ l) ≡ some (min s m)
+      least = rw (e, h .0)
 
-    cases : (u : Target) → (u ≡ t) ⊎ List·Memᴰ u l → And p t u ⊎ List·Memᴰ u l
-    cases u (inl k) = inl (inr k)
-    cases u (inr k) = inr k
+      go : (c : Bool) → ltb m s ≡ c → Tells (t ∷ l) (cond c (At j m) (At (t .identity) s))
+      go true q =
+          let k : m < s = ltb-true m s q in
+          (least ∙ ap some (min-eq-right (omega arith)), rw (e, ne-eqb m s (λ z. let w : m ≡ s = z in omega arith)) (h .1))
+      go false q = (least ∙ ap some (min-eq-left (omega (arith, ltb-false m s q))), rw (e, eq-eqb s s refl))
 
-    back : (u : Target) → p u ⊎ List·Memᴰ u (t ∷ l) → And p t u ⊎ List·Memᴰ u l
-    back u (inl k) = inl (inl k)
-    back u (inr k) = cases u (List·Memᴰ·cases-cons k)
+tells-head : (t : Target) (l : List Target) (o : Option ℕ) → meetingTime t ≡ o → Tells l (best l) → Tells (t ∷ l) (join (one (t .identity) o) (best l))
+unfolding join one
+tells-head t l none e h = unmet t l e (best l) h
+tells-head t l (some s) e h = met t l s e (best l) h
 
-from-best : (l : List Target) → BestIn (λ u. List·Memᴰ u l) (fold better Missing l)
-from-best l = same-seen (λ u. ⊥ ⊎ List·Memᴰ u l) (λ u. List·Memᴰ u l) to (λ u k. inr k) (fold better Missing l) (all-of (λ u. ⊥) Missing l (λ u k. absurd k))
-  where
-    to : (u : Target) → ⊥ ⊎ List·Memᴰ u l → List·Memᴰ u l
-    to u (inl k) = absurd k
-    to u (inr k) = k
+tells : (l : List Target) → Tells l (best l)
+unfolding best leastTime
+tells [] = refl
+tells (t ∷ l) = tells-head t l (meetingTime t) refl (tells l)
 
-pub picked-none : (l : List Target) → fold better Missing l ≡ Missing → Picked l (choice.Refused NoMeeting)
-picked-none l e = (refl, record { none-meets = rw e at (from-best l) })
+-- what the loop leaves tells of the list
+loop-tells : (l : List Target) (b : Best) → fold better Missing l ≡ b → Tells l b
+unfolding join
+loop-tells l b e = subst (Tells l) (sym (fold-best Missing l) ∙ e) (tells l)
 
-pub picked-one : (l : List Target) (i s : ℕ) → fold better Missing l ≡ At i s → Picked l (choice.Target i)
+pub picked-none : (l : List Target) → fold better Missing l ≡ Missing → choice.Refused NoMeeting ≡ pickOf l
+unfolding pickOf
+picked-none l e = sym (ap (λ (o : Option ℕ). pickAt o l) (loop-tells l Missing e))
+
+pub picked-one : (l : List Target) (i s : ℕ) → fold better Missing l ≡ At i s → choice.Target i ≡ pickOf l
+unfolding pickOf
 picked-one l i s e =
-    let b : LeastIn (λ u. List·Memᴰ u l) i s = rw e at (from-best l) in
-    record { target = b .target; stands = b .is-seen; named = b .named; time = s; meets = b .meets; least = b .least }
+    let h = loop-tells l (At i s) e in
+    sym (ap (λ (o : Option ℕ). pickAt o l) (h .0) ∙ h .1)

@@ -70,9 +70,9 @@ fn vector_of(t: Target) -> Vec3
     report.position.as_vec3()
 }
 
-// Some target whose found meeting time is least.
+// The target of the lowest identity among those whose found meeting time is least; NoMeeting (19) where none has one.
 pub fn pick(board: Board) -> Choice
-    ensures { λ r. ⌜ asked.Picked (plain board .targets) r ⌝ }
+    ensures { λ r. ⌜ r ≡ asked.pick (plain board) ⌝ }
 {
     let targets = board.targets;
     let entries = targets.entries;
@@ -82,7 +82,7 @@ pub fn pick(board: Board) -> Choice
     }
 }
 
-// The least meeting time of the first n targets.
+// The least meeting time of the first n targets, and the first of them that has it.
 fn soonest(entries: [Target; MOST_TARGETS], n: usize) -> Best
     requires { ⌜ n ≤ mostTargets ⌝ }
     ensures { λ r. ⌜ r ≡ means.fold spec.better Best.Missing (take n entries) ⌝ }
@@ -118,7 +118,7 @@ fn better(b: Best, t: Target) -> Best
     }
 }
 
-// The best so far, or this identity where its meeting time in nanoseconds is less.
+// The best so far, or this identity where its meeting time in nanoseconds is less: among equals the earlier stays.
 fn sooner(b: Best, identity: u16, time: u64) -> Best
     ensures { λ r. ⌜ r ≡ spec.sooner b identity time ⌝ }
 {
