@@ -22,8 +22,8 @@ use Rattle.plain.specs.declared.targets.Target.{Target}
 use Rattle.wire.specs.declared.frame.Frame.{Frame}
 use Rattle.wire.specs.declared.frame.Frame.the-variants as frame
 use Rattle.sessions.specs.Quick.{sessionOf, Quickly, totalReply, hinted, atCall, look}
-use Rattle.sessions.specs.Session.{plainOf, kindOf, told, ifStarted, Replied, Stepping}
-use Rattle.sessions.proofs.Sessions.{heard, not-heard, total-asked, no-frame}
+use Rattle.sessions.specs.Session.{plainOf, kindOf, told, ifStarted, replyOf, next, Stepping}
+use Rattle.sessions.proofs.Sessions.{heard, not-heard, asked, no-frame}
 
 -- ---- the parts of a session
 
@@ -63,19 +63,19 @@ unfolding Quickly atCall sessionOf
 call-right true s ids c = hinted-right s ids c (glance s ids c) (glanced s ids c)
 call-right false s ids c = λ es u. not-heard (sessionOf false s es) c refl
 
-total-right : (b : Bool) (s : Setting) (es : List Target) → Replied (plainOf (sessionOf b s es)) frame.Total (totalReply b s)
-unfolding Replied plainOf sessionOf ifStarted boardOf plain
+total-right : (b : Bool) (s : Setting) (es : List Target) → totalReply b s ≡ replyOf (plainOf (sessionOf b s es)) frame.Total
+unfolding replyOf plainOf sessionOf ifStarted boardOf plain
 total-right true s es = refl
 total-right false s es = refl
 
 -- what a quick look tells is right of every session of the setting whose targets have the identities
 pub quickly : (b : Bool) (s : Setting) (ids : List ℕ) (f : Frame) → Quickly b s ids f (look b s ids f)
-unfolding Quickly look
+unfolding Quickly look next
 quickly b s ids (frame.Fresh r) = tt
 quickly b s ids (frame.Told c) = call-right b s ids c
 quickly b s ids frame.Mean = tt
 quickly b s ids frame.Pick = tt
-quickly b s ids frame.Total = λ es u. total-asked (sessionOf b s es) refl (total-right b s es)
+quickly b s ids frame.Total = λ es u. asked (sessionOf b s es) frame.Total refl (total-right b s es) refl
 quickly b s ids frame.NotAFrame = λ es u. no-frame (sessionOf b s es) refl
 
 -- a call of a session that has a board, by the glance's hint

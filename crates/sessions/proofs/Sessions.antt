@@ -2,7 +2,7 @@
 use Prim.Native.Nat.{ℕ}
 use mathlib.Core.Bool.{true, false}
 use mathlib.Core.Option.{some, none}
-use mathlib.Core.Path.{_≡_, refl, sym, _∙_, ap, subst}
+use mathlib.Core.Path.{_≡_, refl, sym, _∙_, ap}
 use lib.Ieee.{Float}
 use Rattle.plain.specs.Board.{begins, fresh, answer, after}
 use Rattle.plain.specs.Code.{plain, Demanded}
@@ -16,7 +16,7 @@ use Rattle.wire.specs.declared.frame.Frame.the-variants as frame
 use Rattle.wire.specs.declared.reply.Reply.{Reply}
 use Rattle.wire.specs.declared.reply.Reply.the-variants as reply
 use Rattle.sessions.specs.declared.session.Session.{Session}
-use Rattle.sessions.specs.Session.{plainOf, kindOf, told, ifStarted, afterCall, begun, Replied, next, Stepping}
+use Rattle.sessions.specs.Session.{plainOf, kindOf, told, ifStarted, afterCall, begun, replyOf, next, Stepping}
 
 pub opened : (s : Session) → s .started ≡ true → plainOf s ≡ some (plain (s .board))
 unfolding plainOf
@@ -34,53 +34,44 @@ module _ {s : Session} {r : Float} {m : Answered} {y : Reply} where
   -- an accepted 00
   pub started-done : y ≡ told 0 (m .answer) → Made r m → m .answer ≡ answered.Done
       → Stepping s (frame.Fresh r) (record { session = record { started = true; board = m .board }; reply = y })
-  unfolding Replied next begun plainOf
+  unfolding replyOf next begun plainOf
   started-done e f h =
-      record { replied = e ∙ ap (told 0) (f .0); session-is = rw (f .1, ← f .0, h) }
+      record { reply-is = e ∙ ap (told 0) (f .0); session-is = rw (f .1, ← f .0, h) }
 
   pub started-solved : {l : Line} → y ≡ told 0 (m .answer) → Made r m → m .answer ≡ answered.Solved l
       → Stepping s (frame.Fresh r) (record { session = record { started = true; board = m .board }; reply = y })
-  unfolding Replied next begun plainOf
+  unfolding replyOf next begun plainOf
   started-solved e f h =
-      record { replied = e ∙ ap (told 0) (f .0); session-is = rw (f .1, ← f .0, h) }
+      record { reply-is = e ∙ ap (told 0) (f .0); session-is = rw (f .1, ← f .0, h) }
 
   -- a refused 00
   pub stayed : {q : Refusal} → y ≡ told 0 (m .answer) → Made r m → m .answer ≡ answered.Refused q
       → Stepping s (frame.Fresh r) (record { session = s; reply = y })
-  unfolding Replied next begun
-  stayed e f h = record { replied = e ∙ ap (told 0) (f .0); session-is = rw (← f .0, h) }
+  unfolding replyOf next begun
+  stayed e f h = record { reply-is = e ∙ ap (told 0) (f .0); session-is = rw (← f .0, h) }
 
 -- a call before the first accepted 00
 pub not-heard : (s : Session) (c : Call) → s .started ≡ false → Stepping s (frame.Told c) (record { session = s; reply = reply.NotAFrame })
-unfolding Replied next ifStarted afterCall
-not-heard s c e = let n = closed s e in record { replied = rw n; session-is = rw n }
+unfolding replyOf next ifStarted afterCall
+not-heard s c e = let n = closed s e in record { reply-is = rw n; session-is = rw n }
 
 -- a call of a board
 pub heard : (s : Session) (c : Call) {r : Answered} {k : ℕ} {y : Reply} → s .started ≡ true
     → r .answer ≡ answer (plain (s .board)) c → plain (r .board) ≡ after (plain (s .board)) c → k ≡ kindOf c → y ≡ told k (r .answer)
     → Stepping s (frame.Told c) (record { session = record { started = true; board = r .board }; reply = y })
-unfolding Replied next ifStarted afterCall
+unfolding replyOf next ifStarted afterCall
 heard s c {r} on a h k e =
     let o = opened s on in
     record {
-      replied = e ∙ rw (o, k, a);
+      reply-is = e ∙ rw (o, k, a);
       session-is = opened (record { started = true; board = r .board }) refl ∙ rw (o, h);
     }
 
 -- a frame that leaves the session as it is
-module _ (s : Session) {f : Frame} {y : Reply} where
-  pub mean-asked : f ≡ frame.Mean → Replied (plainOf s) frame.Mean y → Stepping s f (record { session = s; reply = y })
-  unfolding next
-  mean-asked e h = record { replied = subst (λ (g : Frame). Replied (plainOf s) g y) (sym e) h; session-is = rw e }
-
-  pub pick-asked : f ≡ frame.Pick → Replied (plainOf s) frame.Pick y → Stepping s f (record { session = s; reply = y })
-  unfolding next
-  pick-asked e h = record { replied = subst (λ (g : Frame). Replied (plainOf s) g y) (sym e) h; session-is = rw e }
-
-  pub total-asked : f ≡ frame.Total → Replied (plainOf s) frame.Total y → Stepping s f (record { session = s; reply = y })
-  unfolding next
-  total-asked e h = record { replied = subst (λ (g : Frame). Replied (plainOf s) g y) (sym e) h; session-is = rw e }
+pub asked : (s : Session) (g : Frame) {f : Frame} {y : Reply} → f ≡ g → y ≡ replyOf (plainOf s) g → plainOf s ≡ next (plainOf s) g
+    → Stepping s f (record { session = s; reply = y })
+asked s g e h k = record { reply-is = h ∙ ap (replyOf (plainOf s)) (sym e); session-is = k ∙ ap (next (plainOf s)) (sym e) }
 
 pub no-frame : (s : Session) {f : Frame} → f ≡ frame.NotAFrame → Stepping s f (record { session = s; reply = reply.NotAFrame })
-unfolding Replied next
-no-frame s e = record { replied = rw e; session-is = rw e }
+unfolding replyOf next
+no-frame s e = record { reply-is = rw e; session-is = rw e }

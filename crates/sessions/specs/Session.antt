@@ -1,9 +1,9 @@
--- A session: a plain board, or none yet. What one frame makes of it, and what it may be answered. Definitions only.
+-- A session: a plain board, or none yet. What one frame makes of it, and what it is answered. Definitions only.
 use Prim.Native.Nat.{ℕ}
 use mathlib.Core.Bool.{cond}
 use mathlib.Core.Option.{Option, some, none}
 use mathlib.Core.Path.{_≡_}
-use Rattle.plain.specs.Asking.{Picked, mean, choiceNumber, choiceIdentity}
+use Rattle.plain.specs.Asking.{mean, pick, choiceNumber, choiceIdentity}
 use Rattle.plain.specs.Board.{Plain, fresh, begins, answer, after}
 use Rattle.plain.specs.Call.{answerNumber}
 use Rattle.plain.specs.Code.{plain}
@@ -58,25 +58,14 @@ unfoldable pub ifStarted : Option Plain → (Plain → Reply) → Reply
 ifStarted none f = reply.NotAFrame
 ifStarted (some b) f = f b
 
--- the reply to a pick that the board may make
-pub record PickTold (b : Plain) (y : Reply) : Type 0 where
-  pub choice : Choice
-  pub picked : Picked (b .targets) choice
-  pub reply-is : y ≡ pickTold choice
-
--- "which among equals is free"
-unfoldable pub PickReplied : Option Plain → Reply → Type 0
-PickReplied none y = y ≡ reply.NotAFrame
-PickReplied (some b) y = PickTold b y
-
--- y is the reply to a frame; but for a pick there is one alone
-unfoldable pub Replied : Option Plain → Frame → Reply → Type 0
-Replied o (frame.Fresh r) y = y ≡ told 0 (begins r)
-Replied o (frame.Told c) y = y ≡ ifStarted o (λ b. told (kindOf c) (answer b c))
-Replied o frame.Mean y = y ≡ ifStarted o (λ b. meanTold (mean b))
-Replied o frame.Pick y = PickReplied o y
-Replied o frame.Total y = y ≡ ifStarted o (λ b. reply.Total (b .total))
-Replied o frame.NotAFrame y = y ≡ reply.NotAFrame
+-- the reply to a frame
+unfoldable pub replyOf : Option Plain → Frame → Reply
+replyOf o (frame.Fresh r) = told 0 (begins r)
+replyOf o (frame.Told c) = ifStarted o (λ b. told (kindOf c) (answer b c))
+replyOf o frame.Mean = ifStarted o (λ b. meanTold (mean b))
+replyOf o frame.Pick = ifStarted o (λ b. pickTold (pick b))
+replyOf o frame.Total = ifStarted o (λ b. reply.Total (b .total))
+replyOf o frame.NotAFrame = reply.NotAFrame
 
 -- ---- the session after a frame
 
@@ -106,5 +95,5 @@ plainOf s = cond (s .started) (some (plain (s .board))) none
 
 -- what a frame makes of a session
 pub record Stepping (s : Session) (f : Frame) (r : Stepped) : Type 0 where
-  pub replied : Replied (plainOf s) f (r .reply)
+  pub reply-is : r .reply ≡ replyOf (plainOf s) f
   pub session-is : plainOf (r .session) ≡ next (plainOf s) f

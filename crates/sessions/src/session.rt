@@ -128,7 +128,7 @@ fn pick_told(choice: Choice) -> Reply
 
 // The reply to a frame that asks for the mean position, ff01 where no board has been started.
 fn ask_mean(s: Session) -> Reply
-    ensures { λ r. ⌜ spec.Replied (spec.plainOf s) Frame.Mean r ⌝ }
+    ensures { λ r. ⌜ r ≡ spec.replyOf (spec.plainOf s) Frame.Mean ⌝ }
 {
     let started = s.started;
     if !started {
@@ -140,7 +140,7 @@ fn ask_mean(s: Session) -> Reply
 
 // The reply to a frame that asks for a pick, ff01 where no board has been started.
 fn ask_pick(s: Session) -> Reply
-    ensures { λ r. ⌜ spec.Replied (spec.plainOf s) Frame.Pick r ⌝ }
+    ensures { λ r. ⌜ r ≡ spec.replyOf (spec.plainOf s) Frame.Pick ⌝ }
 {
     let started = s.started;
     if !started {
@@ -152,7 +152,7 @@ fn ask_pick(s: Session) -> Reply
 
 // The reply to a frame that asks for the total of steps, ff01 where no board has been started.
 fn ask_total(s: Session) -> Reply
-    ensures { λ r. ⌜ spec.Replied (spec.plainOf s) Frame.Total r ⌝ }
+    ensures { λ r. ⌜ r ≡ spec.replyOf (spec.plainOf s) Frame.Total ⌝ }
 {
     let started = s.started;
     if !started {

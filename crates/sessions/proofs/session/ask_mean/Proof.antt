@@ -1,18 +1,18 @@
 -- The mean of a board, or number 1 where there is none.
 use mathlib.Core.Path.{_∙_, ap}
 use borrow.Author.Tests.{not-true, not-false}
-use Rattle.sessions.specs.Session.{Replied, ifStarted, meanTold}
+use Rattle.sessions.specs.Session.{replyOf, ifStarted, meanTold}
 use Rattle.sessions.proofs.Sessions.{opened, closed}
 use borrow.Author.Needs.{needs}
 use Rattle.sessions.proofs.session.ask_mean.Statement.{statement}
 use Rattle.sessions.proofs.session.ask_mean.Tie as tie
 
 returns : tie.Need-returns
-unfolding Replied ifStarted
+unfolding replyOf ifStarted
 returns c = rw (closed (c .before .args .s) (not-true _ (c .if1 .taken)))
 
 returns-2 : tie.Need-returns-2
-unfolding Replied ifStarted
+unfolding replyOf ifStarted
 returns-2 c =
     let entry = c .before .before .before .before in
     rw (opened (entry .args .s) (not-false _ (c .before .before .before .if1 .left))) (c .mean-told .ensures ∙ ap meanTold (c .before .mean .ensures))

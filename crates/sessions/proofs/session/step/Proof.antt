@@ -1,8 +1,9 @@
 -- Each frame by its kind.
-use mathlib.Core.Path.{sym, subst}
+use mathlib.Core.Path.{refl, sym, subst}
 use Rattle.wire.specs.declared.frame.Frame.{Frame}
-use Rattle.sessions.specs.Session.{Stepping}
-use Rattle.sessions.proofs.Sessions.{mean-asked, pick-asked, total-asked, no-frame}
+use Rattle.wire.specs.declared.frame.Frame.the-variants.{Mean, Pick, Total}
+use Rattle.sessions.specs.Session.{next, Stepping}
+use Rattle.sessions.proofs.Sessions.{asked, no-frame}
 use borrow.Author.Needs.{needs}
 use Rattle.sessions.proofs.session.step.Statement.{statement}
 use Rattle.sessions.proofs.session.step.Tie as tie
@@ -18,13 +19,16 @@ returns-2 c =
     subst (λ (f : Frame). Stepping (entry .args .s) f (c .tell .result)) (sym (c .before .before .frame2 .given .1)) (c .tell .ensures)
 
 returns-3 : tie.Need-returns-3
-returns-3 c = mean-asked _ (c .before .enum-told .given .1) (c .ask-mean .ensures)
+unfolding next
+returns-3 c = asked _ Mean (c .before .enum-told .given .1) (c .ask-mean .ensures) refl
 
 returns-4 : tie.Need-returns-4
-returns-4 c = pick-asked _ (c .before .enum-told2 .given .1) (c .ask-pick .ensures)
+unfolding next
+returns-4 c = asked _ Pick (c .before .enum-told2 .given .1) (c .ask-pick .ensures) refl
 
 returns-5 : tie.Need-returns-5
-returns-5 c = total-asked _ (c .before .enum-told3 .given .1) (c .ask-total .ensures)
+unfolding next
+returns-5 c = asked _ Total (c .before .enum-told3 .given .1) (c .ask-total .ensures) refl
 
 returns-6 : tie.Need-returns-6
 returns-6 c = no-frame _ (c .enum-told4 .given .1)
