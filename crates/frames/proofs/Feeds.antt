@@ -1,14 +1,15 @@
 -- What `feed` hands back, of the line that has begun, of the lines after it, and of both.
-use Prim.Native.Nat.{ℕ, _+_, _-_, _≤_, _<_}
-use mathlib.Core.Bool.{true, false, false≢true}
-use mathlib.Core.List.{List, [], _++_, append-assoc, append-nil}
+use Prim.Native.Nat.{ℕ, suc, _+_, _-_, _≤_, _<_}
+use mathlib.Core.Bool.{Bool, true, false, cond, _&&_, false≢true}
+use mathlib.Core.List.{List, [], _∷_, _++_, append-assoc, append-nil}
 use mathlib.Core.Logic.{_≢_}
 use mathlib.Core.Path.{_≡_, refl, sym, ap, _∙_, subst}
 use native.Mathlib.Nat.{zero-add, sub-zero}
 use native.Mathlib.Omega.{arith}
 use borrow.Author.Tests.{ltb-true, lt-ltb, le-ltb}
+use lib.Dec.{eqb, ltb}
 use lib.ListN.{length, take, drop, getD, length-drop, length-append, length-take, drop-of-length-le}
-use lib.Seq.{take-all, take-nil, take-add, getD-drop, drop-drop, length-take-le}
+use lib.Seq.{take-all, take-nil, take-add, drop-cons, drop-drop, length-take-le}
 use Rattle.hex.specs.Write.{over, Wrote}
 use Rattle.hex.proofs.Write.{wrote-nothing, then, as-length}
 use Rattle.sessions.specs.declared.session.Session.{Session}
@@ -16,10 +17,9 @@ use Rattle.frames.specs.declared.stream.Fed.{Fed}
 use Rattle.frames.specs.declared.stream.Stream.{Stream}
 use Rattle.frames.specs.Line.{kept, least, Passes, EndsAt, Joined}
 use Rattle.sessions.specs.Session.{plainOf}
-use Rattle.frames.specs.Stream.{room, waits, Model, fedState, fedAsks, view, Feeding, GoingOn}
+use Rattle.frames.specs.Stream.{room, waits, Model, stepped, answered, fedState, fedText, usedOf, view, Written, Feeding, GoingOn}
 use Rattle.frames.specs.Whole.{newline}
-use Rattle.frames.proofs.Pieces.{split, state-append, asks-append}
-use Rattle.frames.proofs.Texts.{text-append, text-by, text-none}
+use Rattle.frames.proofs.Pieces.{split, state-append, text-append}
 use Rattle.frames.proofs.Turns.{Passed, passed-bytes, clamped}
 
 -- ---- before a piece, and after it
@@ -27,41 +27,51 @@ use Rattle.frames.proofs.Turns.{Passed, passed-bytes, clamped}
 -- before the first byte: the line that has begun
 pub opening : (m : Model) (xs page q : List ℕ) (session : Session) → _≡_ {A = Model} (record { board = plainOf session; part = take kept q }) m
     → Passed m xs page page session q 0 0
-unfolding fedState fedAsks
+unfolding fedState fedText
 opening m xs page q session e =
-    record { within = omega arith; state = e; answers = record { text = []; text-of = text-none; wrote = wrote-nothing page 0 (omega arith) } }
+    record { within = omega arith; state = e; wrote = wrote-nothing page 0 (omega arith); uses = rw (e, sub-zero (length page)) (sym (zero-add _)) }
 
 -- with no line begun
 pub opening-none : (xs page : List ℕ) (session : Session) → Passed (record { board = plainOf session; part = [] }) xs page page session [] 0 0
 opening-none xs page session = opening _ xs page [] session (ap (λ (p : List ℕ). record { board = plainOf session; part = p }) (take-nil kept))
 
+-- where nothing is left, or a newline whose reply might not fit, no more is used
+no-more : (m : Model) (left : ℕ) (xs : List ℕ) (e : ℕ) → e ≤ length xs → (e < length xs → (getD xs e 0 ≡ newline) × (left < room))
+    → usedOf m left (drop e xs) ≡ 0
+unfolding usedOf
+no-more m left xs e w h =
+    split (length xs) e
+    (λ g. rw (drop-of-length-le xs g))
+    (λ g. rw (drop-cons xs e 0 g, h g .0) (simp (lt-ltb left room (h g .1))))
+
 -- after the bytes used: their state and text, the line kept in what is handed back
 module _ (s : Stream) (line : List ℕ) (k : ℕ) {xs page out q : List ℕ} {session : Session} {at e : ℕ}
     (v : Passed (view s) xs page out session q at e) (j : take k line ≡ take kept q) where
-  handed : _≡_ {A = Model} (record { board = plainOf session; part = take k line }) (fedState (view s) (take e xs))
-  handed = ap (λ (p : List ℕ). record { board = plainOf session; part = p }) j ∙ v .state
+  handed : _≡_ {A = Model} (record { board = plainOf session; part = take k line }) (record { board = plainOf session; part = take kept q })
+  handed = ap (λ (p : List ℕ). record { board = plainOf session; part = p }) j
+
+  all-used : (e < length xs → (getD xs e 0 ≡ newline) × (length page < at + room)) → e ≡ usedOf (view s) (length page) xs
+  all-used h =
+      sym (v .uses ∙ rw (no-more _ (length page - at) xs e (v .within) (λ g. (h g .0, omega (arith, h g .1, v .wrote .within)))) (omega arith))
 
   pub feeding : (e < length xs → (getD xs e 0 ≡ newline) × (length page < at + room))
       → Feeding s xs page out (record { stream = record { session = session; line = line; n = k }; used = e; next = at })
-  feeding h =
-      record { within = v .within; stops = h; state-is = handed; text = v .answers .text; text-of = v .answers .text-of; wrote = v .answers .wrote }
+  feeding h = record { used-is = all-used h; stream-is = handed ∙ v .state; wrote = v .wrote }
 
   pub going-on : (k ≢ 0 → e < length xs → (getD xs e 0 ≡ newline) × (length page < at + room))
       → GoingOn s xs page out (record { stream = record { session = session; line = line; n = k }; used = e; next = at })
   going-on h =
-      record { within = v .within; stops = h; state-is = handed; text = v .answers .text; text-of = v .answers .text-of; wrote = v .answers .wrote }
+      record {
+        within = v .within;
+        stops = λ z. all-used (h z);
+        goes = v .uses ∙ rw (sym handed);
+        stream-is = handed ∙ v .state;
+        wrote = v .wrote;
+      }
 
 -- a line that is not yet answered waits as a piece does
 pub going-feeds : {s : Stream} {xs page out : List ℕ} {r : Fed} → GoingOn s xs page out r → 0 < r .stream .n → Feeding s xs page out r
-going-feeds g h =
-    record {
-      within = g .within;
-      stops = g .stops (λ e. omega arith);
-      state-is = g .state-is;
-      text = g .text;
-      text-of = g .text-of;
-      wrote = g .wrote;
-    }
+going-feeds g h = record { used-is = g .stops (λ e. omega arith); stream-is = g .stream-is; wrote = g .wrote }
 
 -- a stream with no line begun
 pub passed-fresh : (s : Stream) {xs page out q : List ℕ} {session : Session} {at e : ℕ} → s .n ≡ 0
@@ -140,6 +150,16 @@ rest-of xs a = take-all (length xs - a) (drop a xs) (omega (arith, length-drop a
 nothing-after : (xs : List ℕ) (a : ℕ) → drop (length xs - a) (drop a xs) ≡ []
 nothing-after xs a = let h : length (drop a xs) ≤ length xs - a = omega (arith, length-drop a xs) in drop-of-length-le (drop a xs) h
 
+-- no more is used than there is
+pub used-le : (m : Model) (left : ℕ) (xs : List ℕ) → usedOf m left xs ≤ length xs
+unfolding usedOf
+used-le m left [] = omega arith
+used-le m left (x ∷ xs) = go (eqb x newline && ltb left room) (used-le (stepped m x) (left - length (answered m x)) xs)
+  where
+    go : (b : Bool) {n : ℕ} → n ≤ length xs → cond b 0 (suc n) ≤ length (x ∷ xs)
+    go true h = omega arith
+    go false h = omega arith
+
 module _ {s : Stream} {xs page mid out : List ℕ} {r t : Fed} (g : GoingOn s xs page mid r)
     (f : Feeding (r .stream) (take (length xs - r .used) (drop (r .used) xs)) (take (length mid - r .next) (drop (r .next) mid)) out t) where
   l : length (take (length xs - r .used) (drop (r .used) xs)) ≡ length xs - r .used
@@ -149,7 +169,7 @@ module _ {s : Stream} {xs page mid out : List ℕ} {r t : Fed} (g : GoingOn s xs
   k = ap (λ (z : List ℕ). length z) (rest-of mid (r .next)) ∙ length-drop (r .next) mid
 
   pub used-within : r .used + t .used ≤ length xs
-  used-within = omega (arith, g .within, f .within, l)
+  used-within = omega (arith, g .within, f .used-is, used-le (view (r .stream)) (length (take (length mid - r .next) (drop (r .next) mid))) (take (length xs - r .used) (drop (r .used) xs)), l)
 
   pub next-within : r .next + t .next ≤ length page
   next-within = omega (arith, g .wrote .within, g .wrote .length-is, f .wrote .within, k)
@@ -157,22 +177,23 @@ module _ {s : Stream} {xs page mid out : List ℕ} {r t : Fed} (g : GoingOn s xs
   upto-both : take (r .used + t .used) xs ≡ take (r .used) xs ++ take (t .used) (take (length xs - r .used) (drop (r .used) xs))
   upto-both = rw (rest-of xs (r .used)) (take-add (r .used) (t .used) xs)
 
+  used-both : r .used + t .used ≡ usedOf (view s) (length page) xs
+  used-both = rw (g .goes, f .used-is, rest-of xs (r .used), k, g .wrote .length-is)
+
+  text-both : fedText (view s) (take (r .used) xs) ++ fedText (view (r .stream)) (take (t .used) (take (length xs - r .used) (drop (r .used) xs)))
+      ≡ fedText (view s) (take (r .used + t .used) xs)
+  text-both = rw (g .stream-is, upto-both) (sym (text-append (view s) (take (r .used) xs) _))
+
   pub feeding-then : Feeding s xs page (take (r .next) mid ++ (out ++ drop (length mid - r .next) (drop (r .next) mid)))
       (record { stream = t .stream; used = r .used + t .used; next = r .next + t .next })
   feeding-then =
       record {
-        within = used-within;
-        stops = λ h.
-            let z = f .stops (omega (arith, h, l, g .within)) in
-            (sym (rw (rest-of xs (r .used)) (getD-drop (r .used) xs (t .used) 0)) ∙ z .0, omega (arith, z .1, k, g .wrote .length-is, g .wrote .within));
-        state-is = f .state-is ∙ rw (g .state-is, upto-both) (sym (state-append (view s) (take (r .used) xs) _));
-        text = g .text ++ f .text;
-        text-of =
-            text-by (rw (g .state-is, upto-both) (sym (asks-append (view s) (take (r .used) xs) _)))
-            (text-append (g .text-of) (f .text-of));
+        used-is = used-both;
+        stream-is = f .stream-is ∙ rw (g .stream-is, upto-both) (sym (state-append (view s) (take (r .used) xs) _));
         wrote =
-            rw (nothing-after mid (r .next), append-nil out)
+            rw (nothing-after mid (r .next), append-nil out, ← text-both)
             (as-length (then (g .wrote)
             (wrote-rest (omega (arith, g .wrote .within, g .wrote .length-is))
-            (subst (λ (z : List ℕ). Wrote z 0 (length (f .text)) (f .text) out (t .next)) (rest-of mid (r .next)) (f .wrote)))) refl);
+            (subst (λ (z : List ℕ). Written (fedText (view (r .stream)) (take (t .used) (take (length xs - r .used) (drop (r .used) xs)))) z out (t .next))
+            (rest-of mid (r .next)) (f .wrote)))) refl);
       }

@@ -1,25 +1,29 @@
--- The input in pieces is the input: whatever the pieces are, the text is one of the whole.
+-- The input in pieces is the input: whatever the pieces and the pages are, what is written is the replies to the whole.
 use Prim.Native.Nat.{ℕ, _+_, _≤_, _<_}
 use mathlib.Core.Bool.{Bool, true, false}
 use mathlib.Core.List.{List, [], _∷_, _++_, append-assoc, append-nil}
 use mathlib.Core.Option.{Option, none}
 use mathlib.Core.Path.{_≡_, refl, sym, ap, _∙_}
 use native.Mathlib.Decide.{decLe}
+use native.Mathlib.Nat.{zero-add}
 use native.Mathlib.Omega.{arith}
-use borrow.Author.Tests.{lt-ltb}
+use borrow.Author.Tests.{lt-ltb, le-ltb}
 use lib.Dec.{eqb}
-use lib.ListN.{length, take, length-append}
-use lib.Seq.{take-all, take-append-le, length-take-le, append-snoc}
+use lib.ListN.{length, take, drop, length-append, take-append-drop}
+use lib.Seq.{take-all, take-at, take-append-le, length-take-le, append-snoc}
 use Rattle.plain.specs.Board.{Plain}
 use Rattle.wire.specs.declared.frame.Frame.{Frame}
 use Rattle.wire.specs.Frame.{frameOf}
-use Rattle.sessions.specs.Session.{next}
-use Rattle.frames.specs.Whole.{newline, onto, linesOf, Asked, asked, askedBy, Text, Output}
+use Rattle.sessions.specs.declared.session.Session.{Session}
+use Rattle.sessions.specs.Session.{next, plainOf}
+use Rattle.frames.specs.declared.stream.Fed.{Fed}
+use Rattle.frames.specs.declared.stream.Stream.{Stream}
+use Rattle.hex.specs.Write.{over}
+use Rattle.frames.specs.Whole.{newline, onto, linesOf, replyLine, repliesTo}
 use Rattle.frames.specs.Line.{kept}
-use Rattle.frames.specs.Stream.{Model, fresh, added, stepped, asks, fedState, fedAsks, lastAsks, endAsks, Ran, joined}
-use Rattle.frames.specs.Stream.Ran.{ends, feeds}
+use Rattle.frames.specs.Stream.{room, Model, fresh, added, stepped, answered, fedState, fedText, lastText, endText, view, Written, lastIn, Ran, AnswersAll}
+use Rattle.frames.specs.Stream.Ran.{ended, fed}
 use Rattle.wire.proofs.Lines.{long-is-no-frame}
-use Rattle.frames.proofs.Texts.{text-append, text-by}
 
 -- ---- one piece after another
 
@@ -28,27 +32,21 @@ unfolding fedState
 state-append m [] ys = refl
 state-append m (x ∷ xs) ys = state-append (stepped m x) xs ys
 
-pub asks-append : (m : Model) (xs ys : List ℕ) → fedAsks m (xs ++ ys) ≡ fedAsks m xs ++ fedAsks (fedState m xs) ys
-unfolding fedState fedAsks
-asks-append m [] ys = refl
-asks-append m (x ∷ xs) ys =
-    ap (λ (t : List Asked). asks m x ++ t) (asks-append (stepped m x) xs ys)
-    ∙ sym (append-assoc (asks m x) (fedAsks (stepped m x) xs) (fedAsks (fedState (stepped m x) xs) ys))
+pub text-append : (m : Model) (xs ys : List ℕ) → fedText m (xs ++ ys) ≡ fedText m xs ++ fedText (fedState m xs) ys
+unfolding fedState fedText
+text-append m [] ys = refl
+text-append m (x ∷ xs) ys =
+    ap (λ (t : List ℕ). answered m x ++ t) (text-append (stepped m x) xs ys)
+    ∙ sym (append-assoc (answered m x) (fedText (stepped m x) xs) (fedText (fedState (stepped m x) xs) ys))
 
--- all that an input asks, its end with it
-abbrev allAsks : Model → List ℕ → List Asked
-allAsks m xs = fedAsks m xs ++ endAsks (fedState m xs)
+-- all that an input is answered, its end with it
+abbrev allText : Model → List ℕ → List ℕ
+allText m xs = fedText m xs ++ endText (fedState m xs)
 
-all-append : (m : Model) (xs ys : List ℕ) → fedAsks m xs ++ allAsks (fedState m xs) ys ≡ allAsks m (xs ++ ys)
+all-append : (m : Model) (xs ys : List ℕ) → fedText m xs ++ allText (fedState m xs) ys ≡ allText m (xs ++ ys)
 all-append m xs ys =
-    rw (state-append m xs ys, asks-append m xs ys)
-    (sym (append-assoc (fedAsks m xs) (fedAsks (fedState m xs) ys) (endAsks (fedState (fedState m xs) ys))))
-
-ran-text : (m : Model) (pieces : List (List ℕ)) (text : List ℕ) → Ran m pieces text → Text (allAsks m (joined pieces)) text
-unfolding joined fedState fedAsks
-ran-text m [] text (ends t) = t
-ran-text m (xs ∷ pieces) text (feeds t r) =
-    text-by (all-append m xs (joined pieces)) (text-append t (ran-text (fedState m xs) pieces _ r))
+    rw (state-append m xs ys, text-append m xs ys)
+    (sym (append-assoc (fedText m xs) (fedText (fedState m xs) ys) (endText (fedState (fedState m xs) ys))))
 
 -- ---- a line of which no more is kept
 
@@ -96,22 +94,23 @@ begun-more q x (l ∷ ls) = ap (λ (t : List ℕ). t ∷ ls) (sym (append-snoc q
 abbrev cut : Option Plain → List ℕ → Model
 cut o q = record { board = o; part = take kept q }
 
-ended : (o : Option Plain) (q : List ℕ) → endAsks (cut o q) ≡ askedBy o (lone q)
-unfolding endAsks lastAsks askedBy
-ended o [] = refl
-ended o (y ∷ q) = ap (λ (f : Frame). asked o f ∷ []) (frame-cut (y ∷ q))
+ended-text : (o : Option Plain) (q : List ℕ) → endText (cut o q) ≡ repliesTo o (lone q)
+unfolding endText lastText repliesTo
+ended-text o [] = refl
+ended-text o (y ∷ q) = ap (λ (f : Frame). replyLine o f) (frame-cut (y ∷ q)) ∙ sym (append-nil (replyLine o (frameOf (y ∷ q))))
 
 abbrev Whole : List ℕ → Type 0
-Whole xs = (o : Option Plain) (q : List ℕ) → allAsks (cut o q) xs ≡ askedBy o (begun q (linesOf xs))
+Whole xs = (o : Option Plain) (q : List ℕ) → allText (cut o q) xs ≡ repliesTo o (begun q (linesOf xs))
 
 at-newline : (x : ℕ) (xs : List ℕ) → eqb x newline ≡ true → Whole xs → Whole (x ∷ xs)
-unfolding fedAsks fedState asks stepped linesOf askedBy
+unfolding fedText fedState answered stepped linesOf repliesTo
 at-newline x xs e ih o q =
     rw (e, frame-cut q, append-nil q)
-    (ap (λ (t : List Asked). asked o (frameOf q) ∷ t) (ih (next o (frameOf q)) [] ∙ rw (begun-none (linesOf xs))))
+    (append-assoc (replyLine o (frameOf q)) _ _
+    ∙ ap (λ (t : List ℕ). replyLine o (frameOf q) ++ t) (ih (next o (frameOf q)) [] ∙ rw (begun-none (linesOf xs))))
 
 at-other : (x : ℕ) (xs : List ℕ) → eqb x newline ≡ false → Whole xs → Whole (x ∷ xs)
-unfolding fedAsks fedState asks stepped linesOf
+unfolding fedText fedState answered stepped linesOf
 at-other x xs e ih o q = rw (e, added-cut q x, begun-more q x (linesOf xs)) (ih o (q ++ (x ∷ [])))
 
 by-byte : (x : ℕ) (xs : List ℕ) (b : Bool) → eqb x newline ≡ b → Whole xs → Whole (x ∷ xs)
@@ -119,12 +118,35 @@ by-byte x xs true e ih = at-newline x xs e ih
 by-byte x xs false e ih = at-other x xs e ih
 
 whole : (xs : List ℕ) → Whole xs
-unfolding fedAsks fedState linesOf
-whole [] o q = ended o q
+unfolding fedText fedState linesOf
+whole [] o q = ended-text o q
 whole (x ∷ xs) o q = by-byte x xs (eqb x newline) refl (whole xs) o q
 
--- whatever the pieces are, what is written for them is the output of the whole input
-pub whole-input : (pieces : List (List ℕ)) (text : List ℕ) → Ran fresh pieces text → Output (joined pieces) text
+-- ---- what the code writes
+
+-- what stands on a page up to the place past a text is the text
+taken : {text page out : List ℕ} {n : ℕ} → Written text page out n → take n out ≡ text
+unfolding over
+taken {text} {page} {out} {n} w =
+    ap (λ (k : ℕ). take k out) (w .past ∙ zero-add (length text)) ∙ ap (take (length text)) (w .text) ∙ take-at text (drop (0 + length text) page) (length text) refl
+
+ran-text : {s : Stream} {input text : List ℕ} → Ran s input text → text ≡ allText (view s) input
+unfolding fedState fedText lastIn
+ran-text (ended {s} {page} {out} {n} h w) = taken w ∙ rw (le-ltb (length page) room h)
+ran-text (fed {s} {page} {out} {text} xs rest r f p) =
+    rw (taken (f .wrote), ran-text p, f .stream-is)
+    (all-append (view s) (take (r .used) xs) (drop (r .used) xs ++ rest)
+    ∙ ap (allText (view s)) (sym (append-assoc (take (r .used) xs) (drop (r .used) xs) rest) ∙ ap (λ (l : List ℕ). l ++ rest) (take-append-drop (r .used) xs)))
+
+-- whatever the pieces and the pages are, what is written is the replies to the whole input
+pub whole-input : (s : Stream) → view s ≡ fresh → AnswersAll s
 unfolding fresh
-whole-input pieces text r =
-    text-by (whole (joined pieces) none [] ∙ ap (askedBy none) (begun-none (linesOf (joined pieces)))) (ran-text fresh pieces text r)
+whole-input s e input text p =
+    ran-text p ∙ rw e (whole input none [] ∙ ap (repliesTo none) (begun-none (linesOf input)))
+
+-- a stream of which nothing has come
+pub begun-answers : (session : Session) (line : List ℕ) → plainOf session ≡ none
+    → (view (record { session = session; line = line; n = 0 }) ≡ fresh) × AnswersAll (record { session = session; line = line; n = 0 })
+unfolding fresh
+begun-answers session line e =
+    let v : view (record { session = session; line = line; n = 0 }) ≡ fresh = rw e in (v, whole-input _ v)

@@ -1,12 +1,12 @@
 -- The input in pieces: what is kept between two pieces, and what a piece is answered. Definitions only.
-use Prim.Native.Nat.{ℕ, _+_, _≤_, _<_}
-use mathlib.Core.Bool.{Bool, true, cond}
+use Prim.Native.Nat.{ℕ, suc, _+_, _-_, _≤_}
+use mathlib.Core.Bool.{Bool, true, cond, _&&_}
 use mathlib.Core.List.{List, [], _∷_, _++_}
 use mathlib.Core.Option.{Option, none}
 use mathlib.Core.Logic.{_≢_}
 use mathlib.Core.Path.{_≡_}
 use lib.Dec.{eqb, ltb}
-use lib.ListN.{length, take, getD}
+use lib.ListN.{length, take, drop}
 use Rattle.plain.specs.Board.{Plain}
 use Rattle.hex.specs.Write.{Wrote}
 use Rattle.wire.specs.declared.frame.Frame.{Frame}
@@ -20,7 +20,7 @@ use Rattle.frames.specs.Line.{kept}
 use Rattle.wire.specs.Reply.{replyDigits, mostReplyDigits}
 use Rattle.sessions.specs.Quick.{sessionOf}
 use Rattle.sessions.specs.Session.{next, plainOf}
-use Rattle.frames.specs.Whole.{newline, Asked, asked, Text}
+use Rattle.frames.specs.Whole.{newline, replyLine, replies}
 
 -- the room that any reply fits, its newline with it
 abbrev pub room : ℕ
@@ -51,36 +51,30 @@ unfoldable pub stepped : Model → ℕ → Model
 stepped m x =
     cond (eqb x newline) (record { board = next (m .board) (frameOf (m .part)); part = [] }) (record { board = m .board; part = added (m .part) x })
 
--- what the byte asks: a newline, the frame that it ends
-unfoldable pub asks : Model → ℕ → List Asked
-asks m x = cond (eqb x newline) (asked (m .board) (frameOf (m .part)) ∷ []) []
+-- what the byte is answered: a newline, by the reply to the frame that it ends
+unfoldable pub answered : Model → ℕ → List ℕ
+answered m x = cond (eqb x newline) (replyLine (m .board) (frameOf (m .part))) []
 
 unfoldable pub fedState : Model → List ℕ → Model
 fedState m [] = m
 fedState m (x ∷ xs) = fedState (stepped m x) xs
 
-unfoldable pub fedAsks : Model → List ℕ → List Asked
-fedAsks m [] = []
-fedAsks m (x ∷ xs) = asks m x ++ fedAsks (stepped m x) xs
+unfoldable pub fedText : Model → List ℕ → List ℕ
+fedText m [] = []
+fedText m (x ∷ xs) = answered m x ++ fedText (stepped m x) xs
 
 -- the end of the input: "the last newline may lack"
-unfoldable pub lastAsks : Option Plain → List ℕ → List Asked
-lastAsks o [] = []
-lastAsks o (x ∷ p) = asked o (frameOf (x ∷ p)) ∷ []
+unfoldable pub lastText : Option Plain → List ℕ → List ℕ
+lastText o [] = []
+lastText o (x ∷ p) = replyLine o (frameOf (x ∷ p))
 
-unfoldable pub endAsks : Model → List Asked
-endAsks m = lastAsks (m .board) (m .part)
+unfoldable pub endText : Model → List ℕ
+endText m = lastText (m .board) (m .part)
 
--- ---- all pieces, one after another, and the text that is written for them
-
-pub data Ran : Model → List (List ℕ) → List ℕ → Type 0 where
-  ends : {m : Model} {t : List ℕ} → Text (endAsks m) t → Ran m [] t
-  feeds : {m : Model} {xs : List ℕ} {pieces : List (List ℕ)} {t u : List ℕ} → Text (fedAsks m xs) t → Ran (fedState m xs) pieces u
-      → Ran m (xs ∷ pieces) (t ++ u)
-
-unfoldable pub joined : List (List ℕ) → List ℕ
-joined [] = []
-joined (xs ∷ pieces) = xs ++ joined pieces
+-- how many bytes of a piece are used where so much of the page is left: all, or those before the first newline whose reply might not fit
+unfoldable pub usedOf : Model → ℕ → List ℕ → ℕ
+usedOf m left [] = 0
+usedOf m left (x ∷ xs) = cond (eqb x newline && ltb left room) 0 (suc (usedOf (stepped m x) (left - length (answered m x)) xs))
 
 -- ---- the stream of the code
 
@@ -95,36 +89,42 @@ PutReplyLine y page at out next = Wrote page at (length (replyDigits y ++ (newli
 pub record Answering (s : Session) (f : Frame) (page : List ℕ) (at : ℕ) (out : List ℕ) (r : InParts) : Type 0 where
   pub session-is : plainOf (sessionOf (r .started) (r .setting) (r .targets .entries)) ≡ next (plainOf s) f
   pub counted : r .targets .count ≡ r .setting .count
-  pub text : List ℕ
-  pub text-of : Text (asked (plainOf s) f ∷ []) text
-  pub wrote : Wrote page at (length text) text out (r .next)
+  pub wrote : Wrote page at (length (replyLine (plainOf s) f)) (replyLine (plainOf s) f) out (r .next)
 
--- the bytes used of a piece, and their answer over the page from its start; where not all are used, the next is a newline
--- and its reply might not fit
+-- a text over a page from its start, and the place past it
+abbrev pub Written : List ℕ → List ℕ → List ℕ → ℕ → Type 0
+Written text page out next = Wrote page 0 (length text) text out next
+
+-- a piece: the bytes used, the stream after them, and their replies over the page
 pub record Feeding (s : Stream) (xs page out : List ℕ) (r : Fed) : Type 0 where
-  pub within : r .used ≤ length xs
-  pub stops : r .used < length xs → (getD xs (r .used) 0 ≡ newline) × (length page < r .next + room)
-  pub state-is : view (r .stream) ≡ fedState (view s) (take (r .used) xs)
-  pub text : List ℕ
-  pub text-of : Text (fedAsks (view s) (take (r .used) xs)) text
-  pub wrote : Wrote page 0 (length text) text out (r .next)
+  pub used-is : r .used ≡ usedOf (view s) (length page) xs
+  pub stream-is : view (r .stream) ≡ fedState (view s) (take (r .used) xs)
+  pub wrote : Written (fedText (view s) (take (r .used) xs)) page out (r .next)
 
--- the bytes used of a piece for the line that has begun alone: where it is not yet answered the piece is used up, or its newline waits for room
+-- the same for the line that has begun alone: where it is not yet answered all that can be used is, and where it is the rest of the piece is left
 pub record GoingOn (s : Stream) (xs page out : List ℕ) (r : Fed) : Type 0 where
   pub within : r .used ≤ length xs
-  pub stops : r .stream .n ≢ 0 → r .used < length xs → (getD xs (r .used) 0 ≡ newline) × (length page < r .next + room)
-  pub state-is : view (r .stream) ≡ fedState (view s) (take (r .used) xs)
-  pub text : List ℕ
-  pub text-of : Text (fedAsks (view s) (take (r .used) xs)) text
-  pub wrote : Wrote page 0 (length text) text out (r .next)
+  pub stops : r .stream .n ≢ 0 → r .used ≡ usedOf (view s) (length page) xs
+  pub goes : usedOf (view s) (length page) xs ≡ r .used + usedOf (view (r .stream)) (length page - r .next) (drop (r .used) xs)
+  pub stream-is : view (r .stream) ≡ fedState (view s) (take (r .used) xs)
+  pub wrote : Written (fedText (view s) (take (r .used) xs)) page out (r .next)
 
--- the reply to a line that has begun, over a page from its start
-pub record Finished (s : Stream) (page out : List ℕ) (next : ℕ) : Type 0 where
-  pub text : List ℕ
-  pub text-of : Text (endAsks (view s)) text
-  pub wrote : Wrote page 0 (length text) text out next
+-- the end of the input: the reply to a line that has begun, where the page has the room for any reply, and nothing where not
+unfoldable pub lastIn : Model → ℕ → List ℕ
+lastIn m n = cond (ltb n room) [] (endText m)
 
--- the end of the input: `Finished` where the page has the room for any reply, and nothing is written where not
-pub record Finishing (s : Stream) (page out : List ℕ) (next : ℕ) : Type 0 where
-  pub no-room : length page < room → (out ≡ page) × (next ≡ 0)
-  pub finished : room ≤ length page → Finished s page out next
+abbrev pub Finishing : Stream → List ℕ → List ℕ → ℕ → Type 0
+Finishing s page out next = Written (lastIn (view s) (length page)) page out next
+
+-- ---- a whole input through the code
+
+-- calls of `feed` and `finish`, each on the stream that the call before handed back, and what they write, joined: `feed` is handed any first
+-- part of what is left of the input, what it does not use stays, and `finish` ends it on a page with the room for any reply
+pub data Ran : Stream → List ℕ → List ℕ → Type 0 where
+  ended : {s : Stream} {page out : List ℕ} {n : ℕ} → room ≤ length page → Finishing s page out n → Ran s [] (take n out)
+  fed : {s : Stream} {page out text : List ℕ} (xs rest : List ℕ) (r : Fed) → Feeding s xs page out r
+      → Ran (r .stream) (drop (r .used) xs ++ rest) text → Ran s (xs ++ rest) (take (r .next) out ++ text)
+
+-- what they write for every input, however it is cut and whatever the pages, is its replies
+abbrev pub AnswersAll : Stream → Type 0
+AnswersAll s = (input text : List ℕ) → Ran s input text → text ≡ replies input

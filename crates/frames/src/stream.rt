@@ -1,10 +1,8 @@
 // A stream of bytes, answered line by line, in whatever pieces it comes.
 ghost use mathlib.Core.Path.{_≡_};
-ghost use mathlib.Core.List.{List};
-ghost use Prim.Native.Nat.{ℕ, _+_, _≤_};
+ghost use Prim.Native.Nat.{_+_, _≤_};
 ghost use lib.ListN.{length};
 ghost use Rattle.frames.specs.Line.{least};
-ghost use Rattle.frames.specs.Whole.{Output};
 ghost use Rattle.sessions.specs.Quick.{sessionOf};
 ghost use Rattle.frames.specs.Stream as spec;
 use crate::line::KEPT;
@@ -56,9 +54,9 @@ pub struct Fed {
     pub next: usize,
 }
 
-// A stream of which nothing has come.
+// A stream of which nothing has come. What `feed` and `finish` write of it, joined, is the replies to the whole input, however it is cut.
 pub fn begin() -> Stream
-    ensures { λ r. ⌜ (spec.view r ≡ spec.fresh) × ((pieces : List (List ℕ)) (text : List ℕ) → spec.Ran spec.fresh pieces text → Output (spec.joined pieces) text) ⌝ }
+    ensures { λ r. ⌜ (spec.view r ≡ spec.fresh) × spec.AnswersAll r ⌝ }
 {
     let session = sessions::session::begin();
     Stream {

@@ -13,10 +13,10 @@ returns : tie.Need-returns
 returns c =
     let a = c .before .before .before .args in
     let l : length (a .s .line) ≡ kept = search needs in
-    finished-none l (c .before .kept .ensures) (c .if1 .taken)
+    finished-none (a .s) _ l (c .before .kept .ensures) (c .if1 .taken)
 
 returns-2 : tie.Need-returns-2
-returns-2 c = nothing-done (c .if2 .taken)
+returns-2 c = nothing-done (c .before .before .before .before .args .s) (c .if2 .taken)
 
 array-share-prefix-line : tie.Need-array-share-prefix-line
 array-share-prefix-line c =
@@ -43,7 +43,7 @@ returns-3 c =
     let at-if2 = at-read .before .before .before .before in
     let at-if1 = at-if2 .before in
     let at-kept = at-if1 .before in
-    finished-line l (at-kept .kept .ensures) (at-if1 .if1 .left) (at-if2 .if2 .left) (at-read .read .ensures .0) (c .before .before .answer .ensures)
+    finished-line (a .s) l (at-kept .kept .ensures) (at-if1 .if1 .left) (at-if2 .if2 .left) (at-read .read .ensures .0) (c .before .before .answer .ensures)
 
 pub finish-spec : {M : Type 1} → statement M
 finish-spec =

@@ -99,7 +99,7 @@ returns-2 c =
     let w = waits-not _ _ _ (sym (at-waits .waits .ensures) ∙ at-if1 .if1 .left) in
     let f = at-read .read .ensures .0 ∙ ap frameOf t ∙ frame-cut _ in
     rw (c .session-of .ensures)
-    (going-on (a .s) _ 0 (passed-whole v (w .0) (e .ensures .ends (w .0)) f (at-answer .answer .ensures)) (sym (take-nil kept)) (λ z h. absurd (z refl)))
+    (going-on (a .s) _ 0 (passed-whole v (w .0) (e .ensures .ends (w .0)) (w .1) f (at-answer .answer .ensures)) (sym (take-nil kept)) (λ z h. absurd (z refl)))
 
 pub go-on-spec : {M : Type 1} → statement M
 go-on-spec =

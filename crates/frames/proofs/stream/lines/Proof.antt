@@ -47,7 +47,7 @@ line-at-requires : tie.Need-line-at-requires Inv-loop μ-loop
 line-at-requires c κs = c .before .loop .inv .1 .within
 
 sub-waits : tie.Need-sub-waits Inv-loop μ-loop
-sub-waits c = let w = c .before .before .loop .inv .1 .answers .wrote in omega (arith, w .within, w .length-is)
+sub-waits c = let w = c .before .before .loop .inv .1 .wrote in omega (arith, w .within, w .length-is)
 
 sub-read-known : tie.Need-sub-read-known Inv-loop μ-loop
 sub-read-known c = c .before .before .line-at .ensures .ends-at .passes .from
@@ -71,7 +71,7 @@ goes : (c : tie.Else1 Inv-loop μ-loop)
 goes c =
     let turn = c .before .before .before .before in
     let g = waits-not _ _ _ (sym (c .before .waits .ensures) ∙ c .if1 .left) in
-    let w = turn .loop .inv .1 .answers .wrote in
+    let w = turn .loop .inv .1 .wrote in
     (g .0, omega (arith, g .1, w .within, w .length-is))
 
 put-reply-line-requires : tie.Need-put-reply-line-requires Inv-loop μ-loop
@@ -147,19 +147,19 @@ loop-again c =
     elim (c .match .came) [
       | inl z ↦
           let h = subst q (z .1 .given .1) k (l .entries) u in
-          same-parts (z .7) (z .8) (z .9) (z .10) (z .11) (z .12) u (passed-step v t e f h (z .4 .ensures)) (l .inv .2)
+          same-parts (z .7) (z .8) (z .9) (z .10) (z .11) (z .12) u (passed-step v t e (goes (c .before .before .before .before .before) .1) f h (z .4 .ensures)) (l .inv .2)
       | inr x ↦ elim x [
         | inl z ↦
             let h = subst q (z .1 .given .1) k (l .entries) u in
-            same-parts (z .7) (z .8) (z .9) (z .10) (z .11) (z .12) (h .1) (passed-step v t e f (h .2) (z .4 .ensures)) (l .inv .2)
+            same-parts (z .7) (z .8) (z .9) (z .10) (z .11) (z .12) (h .1) (passed-step v t e (goes (c .before .before .before .before .before) .1) f (h .2) (z .4 .ensures)) (l .inv .2)
         | inr y ↦ elim y [
           | inl z ↦
               let h = subst q (z .1 .given .1) k (l .entries) u in
-              same-parts (z .8) (z .9) (z .10) (z .11 ∙ z .3 .ensures) (z .12) (z .13) (h .0) (passed-step v t e f (h .1) (z .5 .ensures)) (l .inv .2)
+              same-parts (z .8) (z .9) (z .10) (z .11 ∙ z .3 .ensures) (z .12) (z .13) (h .0) (passed-step v t e (goes (c .before .before .before .before .before) .1) f (h .1) (z .5 .ensures)) (l .inv .2)
           | inr z ↦
               let a = answering-by (z .2 .ensures) (z .4 .ensures) in
               let i = z .10 .ensures in
-              same-parts (z .11) (z .12) (z .13) (z .14) (z .15) (z .16) (under-own _ _ _ (i .1) (a .counted) (i .0)) (passed-whole v t e f a)
+              same-parts (z .11) (z .12) (z .13) (z .14) (z .15) (z .16) (under-own _ _ _ (i .1) (a .counted) (i .0)) (passed-whole v t e (goes (c .before .before .before .before .before) .1) f a)
               (ids-long (z .4 .result .targets) _ (i .1) (i .0))
         ]
       ]
@@ -191,7 +191,7 @@ kept-of-requires c κs = omega arith
 same-length : tie.Need-same-length Inv-loop μ-loop
 same-length c =
     let turn = c .before .before .before .before .before .before .before in
-    turn .loop .inv .1 .answers .wrote .length-is
+    turn .loop .inv .1 .wrote .length-is
 
 returns : tie.Need-returns Inv-loop μ-loop
 returns c =
@@ -209,7 +209,7 @@ returns c =
     length-take-le _ _ (omega (arith, length-drop (l .i) (a .xs .now), e .ensures .passes .within)) in
     let t = ap (λ (m : ℕ). take m (c .before .before .joined .result)) (c .kept-of .ensures ∙ ap (λ (m : ℕ). least (0 + m)) (sym k))
     ∙ c .before .before .joined .ensures .text in
-    let w = l .inv .1 .answers .wrote in
+    let w = l .inv .1 .wrote in
     let stops : e .result < length (a .xs .now) → (getD (a .xs .now) (e .result) 0 ≡ newline) × (length (a .page .now) < l .at + room) =
     λ h. elim (at-loop-test .loop-test .came) [
       | inl z ↦ let y : ⊥ = omega (arith, e .ensures .passes .from) in absurd y
