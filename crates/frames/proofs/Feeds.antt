@@ -1,6 +1,6 @@
 -- What `feed` hands back, of the line that has begun, of the lines after it, and of both.
 use Prim.Native.Nat.{ℕ, suc, _+_, _-_, _≤_, _<_}
-use mathlib.Core.Bool.{Bool, true, false, cond, _&&_, false≢true}
+use mathlib.Core.Bool.{Bool, true, false, cond, _&&_, and-false, false≢true}
 use mathlib.Core.List.{List, [], _∷_, _++_, append-assoc, append-nil}
 use mathlib.Core.Logic.{_≢_}
 use mathlib.Core.Path.{_≡_, refl, sym, ap, _∙_, subst}
@@ -159,6 +159,17 @@ used-le m left (x ∷ xs) = go (eqb x newline && ltb left room) (used-le (steppe
     go : (b : Bool) {n : ℕ} → n ≤ length xs → cond b 0 (suc n) ≤ length (x ∷ xs)
     go true h = omega arith
     go false h = omega arith
+
+pub fed-within : {s : Stream} {xs page out : List ℕ} {r : Fed} → Feeding s xs page out r → r .used ≤ length xs
+fed-within {s} {xs} {page} f = omega (arith, f .used-is, used-le (view s) (length page) xs)
+
+-- on a page with the room for any reply some of each piece is used
+pub some-used : {s : Stream} {xs page out : List ℕ} {r : Fed} → Feeding s xs page out r → 0 < length xs → room ≤ length page → 0 < r .used
+some-used {s} {xs} {page} f h k = omega (arith, f .used-is, go xs h)
+  where
+    go : (ys : List ℕ) → 0 < length ys → 0 < usedOf (view s) (length page) ys
+    go [] z = let y : ⊥ = omega arith in absurd y
+    go (y ∷ ys) z = unfold usedOf in rw (le-ltb (length page) room k, and-false (eqb y newline)) (omega arith)
 
 module _ {s : Stream} {xs page mid out : List ℕ} {r t : Fed} (g : GoingOn s xs page mid r)
     (f : Feeding (r .stream) (take (length xs - r .used) (drop (r .used) xs)) (take (length mid - r .next) (drop (r .next) mid)) out t) where

@@ -6,7 +6,8 @@ use native.Mathlib.Omega.{arith}
 use lib.ListN.{length, take}
 use lib.Seq.{length-take-le, take-all}
 use Rattle.frames.specs.Stream.{view, fedState}
-use Rattle.plot.proofs.Progress.{some-used, part-length, poured}
+use Rattle.frames.proofs.Feeds.{fed-within, some-used}
+use Rattle.plot.proofs.Progress.{part-length, poured}
 use Rattle.plot.proofs.Turning.{unwritten}
 use Rattle.plot.proofs.pour.Statement.{statement}
 use Rattle.plot.proofs.pour.Tie as tie
@@ -37,7 +38,7 @@ add-i c =
     let turn = at-feed .before .before .before .before in
     let entry = turn .before .before .before in
     let e = part-length (entry .args .xs .now) (turn .loop .i) (omega arith) in
-    omega (arith, e, at-feed .feed .ensures .0 .within)
+    omega (arith, e, fed-within (at-feed .feed .ensures .0))
 
 slice-reshare-prefix-write-all : tie.Need-slice-reshare-prefix-write-all Inv-loop μ-loop
 slice-reshare-prefix-write-all c =
@@ -70,7 +71,7 @@ loop-less c =
     let e = part-length (a .xs .now) (l .i) (omega arith) in
     let f = at-feed .feed .ensures .0 in
     let u : 0 < at-feed .feed .result .used = some-used f (omega (arith, e)) (omega (arith, l .inv .1)) in
-    omega (arith, e, f .within)
+    omega (arith, e, fed-within f)
 
 loop-again : tie.Need-loop-again Inv-loop μ-loop
 loop-again c =
@@ -81,9 +82,9 @@ loop-again c =
     let a = entry .args in
     let e = part-length (a .xs .now) (l .i) (omega arith) in
     let f = at-feed .feed .ensures .0 in (
-      omega (arith, e, f .within),
+      omega (arith, e, fed-within f),
       f .wrote .length-is ∙ l .inv .1,
-      f .state-is ∙ poured (view (a .s)) _ (a .xs .now) (l .i) (at-feed .feed .result .used) (l .inv .2) (omega (arith, e, f .within)),
+      f .stream-is ∙ poured (view (a .s)) _ (a .xs .now) (l .i) (at-feed .feed .result .used) (l .inv .2) (omega (arith, e, fed-within f)),
     )
 
 same-length-2 : tie.Need-same-length-2 Inv-loop μ-loop
