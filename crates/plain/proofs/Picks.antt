@@ -4,18 +4,21 @@ use native.Mathlib.Omega.{arith}
 use native.Mathlib.Nat.{min-le-left, min-le-right, min-eq-left, min-eq-right}
 use mathlib.Core.Bool.{Bool, true, false, cond}
 use mathlib.Core.List.{List, [], _∷_, List·Memᴰ, List·Memᴰ·head, List·Memᴰ·tail, List·Memᴰ·cases-cons, List·Memᴰ·not-nil}
-use mathlib.Core.Logic.{_⊎_, inl, inr, _↔_}
+use mathlib.Core.Logic.{_≢_, _⊎_, inl, inr}
 use mathlib.Core.Option.{Option, some, none}
 use mathlib.Core.Path.{_≡_, refl, sym, _∙_, ap}
 use lib.Dec.{leb}
 use borrow.Author.Tests.{eqb-true, eqb-false, leb-true, leb-false}
+use Rattle.walks.specs.declared.Outcome.{Outcome}
+use Rattle.walks.specs.declared.Outcome.the-variants.{Found, ZeroDerivative, NotConverged, Negative, TooLong}
+use Rattle.walks.specs.Outcome.{numberOf, nanosecondsOf}
 use Rattle.plain.specs.declared.targets.Target.{Target}
 use Rattle.plain.specs.declared.call.Refusal.{Refusal}
 use Rattle.plain.specs.declared.call.Refusal.the-variants.{NoMeeting}
 use Rattle.plain.specs.declared.asking.Choice.{Choice}
 use Rattle.plain.specs.declared.asking.Choice.the-variants as choice
 use Rattle.plain.specs.Targets.{RisingFrom}
-use Rattle.plain.specs.Asking.{meetingTime, lesser, leastTime, isTime, firstAt, pickAt, pickOf, LowestOfLeast, NoneMeets, PickIs}
+use Rattle.plain.specs.Asking.{foundTime, meetingTime, lesser, leastTime, isTime, firstAt, pickAt, pickOf, LowestOfLeast, NoneMeets, PickIs}
 
 either : {A B G : Type 0} → A ⊎ B → (A → G) → (B → G) → G
 either (inl a) f g = f a
@@ -34,6 +37,22 @@ target-refused e = let z : _≡_ {A = ℕ} 0 1 = cc in omega arith
 
 same-target : {i j : ℕ} → choice.Target i ≡ choice.Target j → i ≡ j
 same-target e = cc
+
+-- ---- a time counts where its number is 00, and no other does
+
+pub found-its-time : (o : Outcome) → numberOf o ≡ 0 → foundTime o ≡ some (nanosecondsOf o)
+found-its-time (Found ns count) e = refl
+found-its-time (ZeroDerivative count) e = absurd (omega (arith, e))
+found-its-time NotConverged e = absurd (omega (arith, e))
+found-its-time (Negative count) e = absurd (omega (arith, e))
+found-its-time (TooLong count) e = absurd (omega (arith, e))
+
+pub refused-no-time : (o : Outcome) → numberOf o ≢ 0 → foundTime o ≡ none
+refused-no-time (Found ns count) h = absurd (h refl)
+refused-no-time (ZeroDerivative count) h = refl
+refused-no-time NotConverged h = refl
+refused-no-time (Negative count) h = refl
+refused-no-time (TooLong count) h = refl
 
 -- ---- the least time is at most each, and one target has it
 
