@@ -119,8 +119,8 @@ impl Board {
         Sphere::mean_position(&positions).ok_or(refusal)
     }
 
-    /// A target whose meeting time is least. Among equals document 01 leaves the choice free;
-    /// here it is the least identity, the first in the order of the targets.
+    /// The lowest identity among the targets whose meeting time is least (request 2026-06):
+    /// the first in the order of the targets.
     pub fn pick(&self) -> Result<u16, u8> {
         self.met().min_by_key(|(time, _)| *time).map(|(_, identity)| identity).ok_or(MEETING)
     }

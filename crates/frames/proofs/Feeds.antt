@@ -17,7 +17,8 @@ use Rattle.frames.specs.declared.stream.Fed.{Fed}
 use Rattle.frames.specs.declared.stream.Stream.{Stream}
 use Rattle.frames.specs.Line.{kept, least, Passes, EndsAt, Joined}
 use Rattle.sessions.specs.Session.{plainOf}
-use Rattle.frames.specs.Stream.{room, waits, Model, stepped, answered, fedState, fedText, usedOf, view, Written, Feeding, GoingOn}
+use Rattle.frames.specs.Stream.{room, Model, stepped, answered, fedState, fedText, usedOf, view, Written, Feeding}
+use Rattle.frames.specs.Turn.{waits, GoingOn}
 use Rattle.frames.specs.Whole.{newline}
 use Rattle.frames.proofs.Pieces.{split, state-append, text-append}
 use Rattle.frames.proofs.Turns.{Passed, passed-bytes, clamped}
@@ -180,7 +181,7 @@ module _ {s : Stream} {xs page mid out : List ℕ} {r t : Fed} (g : GoingOn s xs
   k = ap (λ (z : List ℕ). length z) (rest-of mid (r .next)) ∙ length-drop (r .next) mid
 
   pub used-within : r .used + t .used ≤ length xs
-  used-within = omega (arith, g .within, f .used-is, used-le (view (r .stream)) (length (take (length mid - r .next) (drop (r .next) mid))) (take (length xs - r .used) (drop (r .used) xs)), l)
+  used-within = omega (arith, g .within, fed-within f, l)
 
   pub next-within : r .next + t .next ≤ length page
   next-within = omega (arith, g .wrote .within, g .wrote .length-is, f .wrote .within, k)

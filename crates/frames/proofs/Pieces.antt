@@ -16,7 +16,6 @@ use Rattle.wire.specs.declared.frame.Frame.{Frame}
 use Rattle.wire.specs.Frame.{frameOf}
 use Rattle.sessions.specs.declared.session.Session.{Session}
 use Rattle.sessions.specs.Session.{next, plainOf}
-use Rattle.frames.specs.declared.stream.Fed.{Fed}
 use Rattle.frames.specs.declared.stream.Stream.{Stream}
 use Rattle.hex.specs.Write.{over}
 use Rattle.frames.specs.Whole.{newline, onto, linesOf, replyLine, repliesTo}

@@ -29,7 +29,8 @@ use Rattle.wire.specs.Reply.{replyDigits}
 use Rattle.sessions.specs.Session.{replyOf, next, plainOf, Stepping}
 use Rattle.frames.specs.Whole.{newline, replyLine}
 use Rattle.frames.specs.Line.{kept, least, part, Passes}
-use Rattle.frames.specs.Stream.{room, Model, stepped, answered, fedState, fedText, lastText, endText, usedOf, view, lastIn, PutReplyLine, Written, Answering, Finishing}
+use Rattle.frames.specs.Stream.{room, Model, stepped, answered, fedState, fedText, lastText, endText, usedOf, view, lastIn, Written, Finishing}
+use Rattle.frames.specs.Turn.{PutReplyLine, Answering}
 use Rattle.frames.proofs.Pieces.{split, state-append, text-append, added-cut, frame-cut}
 use Rattle.wire.proofs.Sizes.{reply-short}
 

@@ -1,34 +1,24 @@
 -- The input in pieces: what is kept between two pieces, and what a piece is answered. Definitions only.
 use Prim.Native.Nat.{ℕ, suc, _+_, _-_, _≤_}
-use mathlib.Core.Bool.{Bool, true, cond, _&&_}
+use mathlib.Core.Bool.{cond, _&&_}
 use mathlib.Core.List.{List, [], _∷_, _++_}
 use mathlib.Core.Option.{Option, none}
-use mathlib.Core.Logic.{_≢_}
 use mathlib.Core.Path.{_≡_}
 use lib.Dec.{eqb, ltb}
 use lib.ListN.{length, take, drop}
 use Rattle.plain.specs.Board.{Plain}
 use Rattle.hex.specs.Write.{Wrote}
-use Rattle.wire.specs.declared.frame.Frame.{Frame}
-use Rattle.wire.specs.declared.reply.Reply.{Reply}
-use Rattle.sessions.specs.declared.session.Session.{Session}
-use Rattle.frames.specs.declared.stream.InParts.{InParts}
 use Rattle.frames.specs.declared.stream.Fed.{Fed}
 use Rattle.frames.specs.declared.stream.Stream.{Stream}
 use Rattle.wire.specs.Frame.{frameOf}
 use Rattle.frames.specs.Line.{kept}
-use Rattle.wire.specs.Reply.{replyDigits, mostReplyDigits}
-use Rattle.sessions.specs.Quick.{sessionOf}
+use Rattle.wire.specs.Reply.{mostReplyDigits}
 use Rattle.sessions.specs.Session.{next, plainOf}
 use Rattle.frames.specs.Whole.{newline, replyLine, replies}
 
 -- the room that any reply fits, its newline with it
 abbrev pub room : ℕ
 room = mostReplyDigits + 1
-
--- what comes next waits: a line that does not end in the piece, or a reply that might not fit what is left of the page
-unfoldable pub waits : ℕ → ℕ → ℕ → Bool
-waits e n left = cond (ltb e n) (ltb left room) true
 
 -- ---- what is kept between two pieces
 
@@ -81,16 +71,6 @@ usedOf m left (x ∷ xs) = cond (eqb x newline && ltb left room) 0 (suc (usedOf 
 abbrev pub view : Stream → Model
 view s = record { board = plainOf (s .session); part = take (s .n) (s .line) }
 
--- a reply and its newline, written over a page
-abbrev pub PutReplyLine : Reply → List ℕ → ℕ → List ℕ → ℕ → Type 0
-PutReplyLine y page at out next = Wrote page at (length (replyDigits y ++ (newline ∷ []))) (replyDigits y ++ (newline ∷ [])) out next
-
--- the reply to a frame, with its newline, over a page, and the session in its parts
-pub record Answering (s : Session) (f : Frame) (page : List ℕ) (at : ℕ) (out : List ℕ) (r : InParts) : Type 0 where
-  pub session-is : plainOf (sessionOf (r .started) (r .setting) (r .targets .entries)) ≡ next (plainOf s) f
-  pub counted : r .targets .count ≡ r .setting .count
-  pub wrote : Wrote page at (length (replyLine (plainOf s) f)) (replyLine (plainOf s) f) out (r .next)
-
 -- a text over a page from its start, and the place past it
 abbrev pub Written : List ℕ → List ℕ → List ℕ → ℕ → Type 0
 Written text page out next = Wrote page 0 (length text) text out next
@@ -98,14 +78,6 @@ Written text page out next = Wrote page 0 (length text) text out next
 -- a piece: the bytes used, the stream after them, and their replies over the page
 pub record Feeding (s : Stream) (xs page out : List ℕ) (r : Fed) : Type 0 where
   pub used-is : r .used ≡ usedOf (view s) (length page) xs
-  pub stream-is : view (r .stream) ≡ fedState (view s) (take (r .used) xs)
-  pub wrote : Written (fedText (view s) (take (r .used) xs)) page out (r .next)
-
--- the same for the line that has begun alone: where it is not yet answered all that can be used is, and where it is the rest of the piece is left
-pub record GoingOn (s : Stream) (xs page out : List ℕ) (r : Fed) : Type 0 where
-  pub within : r .used ≤ length xs
-  pub stops : r .stream .n ≢ 0 → r .used ≡ usedOf (view s) (length page) xs
-  pub goes : usedOf (view s) (length page) xs ≡ r .used + usedOf (view (r .stream)) (length page - r .next) (drop (r .used) xs)
   pub stream-is : view (r .stream) ≡ fedState (view s) (take (r .used) xs)
   pub wrote : Written (fedText (view s) (take (r .used) xs)) page out (r .next)
 

@@ -5,6 +5,7 @@ ghost use lib.ListN.{length};
 ghost use Rattle.frames.specs.Line.{least};
 ghost use Rattle.sessions.specs.Quick.{sessionOf};
 ghost use Rattle.frames.specs.Stream as spec;
+ghost use Rattle.frames.specs.Turn as turn;
 use crate::line::KEPT;
 use crate::line::NEWLINE;
 use crate::line::end_of_line;
@@ -69,7 +70,7 @@ pub fn begin() -> Stream
 // A reply and its newline over out from at on, and the place past them.
 fn put_reply_line(out: &mut [u8], at: usize, reply: Reply) -> usize
     requires { ⌜ at + spec.room ≤ length (now out) ⌝ }
-    ensures { λ r. ⌜ spec.PutReplyLine reply (now (out .entry)) at (now (out .exit)) r ⌝ }
+    ensures { λ r. ⌜ turn.PutReplyLine reply (now (out .entry)) at (now (out .exit)) r ⌝ }
 {
     let n = put(out, at, reply);
     out[n] = NEWLINE;
@@ -79,7 +80,7 @@ fn put_reply_line(out: &mut [u8], at: usize, reply: Reply) -> usize
 // The reply to a frame, with its newline, over out from at on.
 fn answer(s: Session, frame: Frame, out: &mut [u8], at: usize) -> InParts
     requires { ⌜ at + spec.room ≤ length (now out) ⌝ }
-    ensures { λ r. ⌜ spec.Answering s frame (now (out .entry)) at (now (out .exit)) r ⌝ }
+    ensures { λ r. ⌜ turn.Answering s frame (now (out .entry)) at (now (out .exit)) r ⌝ }
 {
     let stepped = step(s, frame);
     let session = stepped.session;
@@ -114,14 +115,14 @@ fn kept(n: usize) -> usize
 
 // Does what comes next wait: a line that does not end in the piece, or a reply that might not fit?
 fn waits(end: usize, length: usize, left: usize) -> bool
-    ensures { λ r. ⌜ r ≡ spec.waits end length left ⌝ }
+    ensures { λ r. ⌜ r ≡ turn.waits end length left ⌝ }
 {
     if end < length { left < ROOM } else { true }
 }
 
 // Goes on with a line that has begun: answers it where it ends in the piece and any reply fits the page.
 fn go_on(s: Stream, xs: &[u8], page: &mut [u8]) -> Fed
-    ensures { λ r. ⌜ spec.GoingOn s (now (xs .entry)) (now (page .entry)) (now (page .exit)) r ⌝ }
+    ensures { λ r. ⌜ turn.GoingOn s (now (xs .entry)) (now (page .entry)) (now (page .exit)) r ⌝ }
 {
     let session = s.session;
     let begun = s.line;

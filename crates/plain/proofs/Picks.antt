@@ -2,7 +2,7 @@
 use Prim.Native.Nat.{ℕ, suc, _≤_, min}
 use native.Mathlib.Omega.{arith}
 use native.Mathlib.Nat.{min-le-left, min-le-right, min-eq-left, min-eq-right}
-use mathlib.Core.Bool.{Bool, true, false, cond}
+use mathlib.Core.Bool.{Bool, true, false}
 use mathlib.Core.List.{List, [], _∷_, List·Memᴰ, List·Memᴰ·head, List·Memᴰ·tail, List·Memᴰ·cases-cons, List·Memᴰ·not-nil}
 use mathlib.Core.Logic.{_≢_, _⊎_, inl, inr}
 use mathlib.Core.Option.{Option, some, none}
@@ -15,7 +15,6 @@ use Rattle.walks.specs.Outcome.{numberOf, nanosecondsOf}
 use Rattle.plain.specs.declared.targets.Target.{Target}
 use Rattle.plain.specs.declared.call.Refusal.{Refusal}
 use Rattle.plain.specs.declared.call.Refusal.the-variants.{NoMeeting}
-use Rattle.plain.specs.declared.asking.Choice.{Choice}
 use Rattle.plain.specs.declared.asking.Choice.the-variants as choice
 use Rattle.plain.specs.Targets.{RisingFrom}
 use Rattle.plain.specs.Asking.{foundTime, meetingTime, lesser, leastTime, isTime, firstAt, pickAt, pickOf, LowestOfLeast, NoneMeets, PickIs}

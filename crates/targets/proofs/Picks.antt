@@ -1,5 +1,5 @@
 -- The least of the meeting times, one target after the other, the earlier kept among equals, is the pick.
-use Prim.Native.Nat.{ℕ, _≤_, _<_, min}
+use Prim.Native.Nat.{ℕ, _<_, min}
 use native.Mathlib.Omega.{arith}
 use native.Mathlib.Nat.{min-eq-left, min-eq-right}
 use mathlib.Core.Bool.{Bool, true, false, cond}
@@ -11,11 +11,10 @@ use borrow.Author.Tests.{ltb-true, ltb-false, lt-ltb, le-ltb, eq-eqb, ne-eqb}
 use Rattle.means.specs.Mean.{fold}
 use Rattle.plain.specs.declared.targets.Target.{Target}
 use Rattle.plain.specs.declared.call.Refusal.the-variants.{NoMeeting}
-use Rattle.plain.specs.declared.asking.Choice.{Choice}
 use Rattle.plain.specs.declared.asking.Choice.the-variants as choice
 use Rattle.targets.specs.declared.asking.Best.{Best}
 use Rattle.targets.specs.declared.asking.Best.the-variants.{Missing, At}
-use Rattle.plain.specs.Asking.{meetingTime, lesser, leastTime, firstAt, pickAt, pickOf}
+use Rattle.plain.specs.Asking.{meetingTime, leastTime, firstAt, pickAt, pickOf}
 use Rattle.targets.specs.Asking.{sooner, betterBy, better}
 
 -- the better of two, the first where their times are equal

@@ -1,6 +1,6 @@
 -- A line waits for its end or for room.
 use borrow.Author.Tests.{lt-ltb, le-ltb}
-use Rattle.frames.specs.Stream.{waits}
+use Rattle.frames.specs.Turn.{waits}
 use Rattle.frames.proofs.stream.waits.Statement.{statement}
 use Rattle.frames.proofs.stream.waits.Tie as tie
 
