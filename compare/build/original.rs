@@ -37,18 +37,23 @@ const CUT_METHOD: &str = "    pub fn distance_to(";
 /// What stands in a file so many times, and what takes its place.
 type Change = (&'static str, &'static str, usize);
 
-/// The file of the walks.
-const WALKS: &str = "spherical/sphere.rs";
-/// Altered in it: request 2026-05 accepts a corrected time that equals the time before it too.
-const FAR: Change = (
-    "if fi.abs() < INTERCEPT_NR_EPSILON {",
-    "if fi.abs() < INTERCEPT_NR_EPSILON || ti1_secs == ti_secs {",
-    2,
-);
+/// The file that requests alter.
+const SPHERE: &str = "spherical/sphere.rs";
+/// Altered in it.
+const REQUESTS: [Change; 2] = [
+    // 2026-03: half a circle is PI times the radius.
+    ("return self.radius * 2.0;", "return self.radius * PI;", 1),
+    // 2026-05: a corrected time that equals the time before it is accepted too.
+    (
+        "if fi.abs() < INTERCEPT_NR_EPSILON {",
+        "if fi.abs() < INTERCEPT_NR_EPSILON || ti1_secs == ti_secs {",
+        2,
+    ),
+];
 
 /// A second copy of it, whose walks note what they do.
 const WATCHED: &str = "spherical/watched.rs";
-/// A third, which notes too and has the published rule.
+/// A third, which notes too and has the published rules.
 const BEFORE: &str = "spherical/before.rs";
 /// What stands in these copies, and the same with a note.
 const WATCHES: [Change; 7] = [
@@ -80,20 +85,20 @@ pub fn transform(source: &Path, folder: &Path) {
         let module = transformed(file, &text);
         assert_eq!(foreign(&module), None, "{file} still calls a function of the platform");
         assert_eq!(module.lines().count(), text.lines().count(), "{file} has lost its lines");
-        if file == WALKS {
-            write_walks(folder, &module);
+        if file == SPHERE {
+            write_spheres(folder, &module);
         } else {
             write(folder, file, module);
         }
     }
 }
 
-/// The three copies of the file of the walks.
-fn write_walks(folder: &Path, published: &str) {
-    let far = replaced(published.to_owned(), &FAR);
+/// The three copies of the file that requests alter.
+fn write_spheres(folder: &Path, published: &str) {
+    let altered = REQUESTS.iter().fold(published.to_owned(), replaced);
     write(folder, BEFORE, watched(published));
-    write(folder, WATCHED, watched(&far));
-    write(folder, WALKS, far);
+    write(folder, WATCHED, watched(&altered));
+    write(folder, SPHERE, altered);
 }
 
 fn write(folder: &Path, file: &str, module: String) {

@@ -3,6 +3,7 @@
 
 mod again;
 pub mod answering;
+mod arcs;
 mod beside;
 mod board;
 pub mod boards;
@@ -167,7 +168,7 @@ pub const NINE: &[Function] = &[
         (s: Sphere, p: NVector, start: NVector, end: NVector) RADIUS_AND_TRIPLES:
         s.along_track_distance(p, MinorArc::new(start, end))),
     row!(0x83 "Sphere::angle_to_distance" (s: Sphere, a: Angle) RADIUS_AND_ANGLES:
-        s.angle_to_distance(a)),
+        arcs::angle_to_distance(s, a)),
     row!(0x84 "Sphere::distance_to_angle" (s: Sphere, d: Length) RADIUS_AND_ARCS:
         s.distance_to_angle(d)),
     row!(0x85 "Sphere::destination_position" (s: Sphere, p: NVector, b: Angle, d: Length) WAYS:

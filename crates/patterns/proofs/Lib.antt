@@ -4,3 +4,6 @@ pub mod Value
 pub mod Halves
 pub mod Leading
 pub mod NonFinite
+pub mod Held
+pub mod Products
+pub mod Order

@@ -1,20 +1,33 @@
 -- The sign bit and the magnitude of a value are read off its pattern. Assumes nothing.
 use mathlib.Core.Path.{_≡_, refl, sym, ap, _∙_, subst}
-use Prim.Native.Nat.{ℕ, zero, suc, _+_, _/_, _%_, _^_}
+use Prim.Native.Nat.{ℕ, zero, suc, _+_, _*_, _/_, _%_, _^_}
 use native.Mathlib.Nat.{mod-lt}
 use native.Mathlib.Omega.{arith}
 use mathlib.Core.Bool.{Bool, true, false, not, cond}
-use lib.Dec.{T, leb, eqb}
+use lib.Dec.{T, leb, ltb, eqb}
 use lib.Pow.{pow-pos}
-use lib.Ieee.{Float, nan, inf, fin, binary64, odd, ofFields, ofBits, toBits, fits, isNan, nanBits}
+use lib.Ieee.{Float, nan, inf, fin, binary64, odd, units, round, ofFields, ofBits, toBits, fits, isNan, nanBits}
 use lib.Ieee.Bits.{ofBits-toBits, nanBits-is}
+use lib.Ieee.Fits.{round-is}
 use Rattle.patterns.specs.Bits.{magnitude, signBit}
 use Rattle.patterns.proofs.Pattern.{fields, unsigned}
 
-odd-sign-bit : (s : Bool) (q k : ℕ) → signBit (odd 53 s q k 1074) ≡ s
+odd-sign-bit : (d : ℕ) (s : Bool) (q k : ℕ) → signBit (odd d s q k 1074) ≡ s
 unfolding odd
-odd-sign-bit s zero k = refl
-odd-sign-bit s (suc q) k = refl
+odd-sign-bit d s zero k = refl
+odd-sign-bit d s (suc q) k = refl
+
+units-sign : (s : Bool) (q k : ℕ) → signBit (units binary64 s q k) ≡ s
+unfolding units
+units-sign s q k = go (ltb (q * 2 ^ k) (2 ^ 2098))
+  where
+    go : (t : Bool) → signBit (cond t (odd 54 s q k 1074) (inf s)) ≡ s
+    go true = odd-sign-bit 54 s q k
+    go false = refl
+
+-- a rounding keeps the sign that it is given
+pub round-sign : (s : Bool) (a b : ℕ) → signBit (round binary64 s a b) ≡ s
+round-sign s a b = ap signBit (round-is binary64 s a b) ∙ units-sign s _ _
 
 odd-magnitude : (s : Bool) (q k : ℕ) → magnitude (odd 53 s q k 1074) ≡ odd 53 false q k 1074
 unfolding odd
@@ -23,13 +36,13 @@ odd-magnitude s (suc q) k = refl
 
 fields-sign : (s : Bool) (x t : ℕ) → T (not (isNan (ofFields binary64 s x t))) → signBit (ofFields binary64 s x t) ≡ s
 unfolding ofFields isNan
-fields-sign s zero t n = odd-sign-bit s t 0
+fields-sign s zero t n = odd-sign-bit 53 s t 0
 fields-sign s (suc x) t n = go (eqb (suc x) 2047) (eqb t 0) n
   where
     go : (a b : Bool) → T (not (isNan (cond a (cond b (inf s) nan) (odd 53 s (2 ^ 52 + t) x 1074)))) → signBit (cond a (cond b (inf s) nan) (odd 53 s (2 ^ 52 + t) x 1074)) ≡ s
     go true true n = refl
     go true false n = absurd n
-    go false b n = odd-sign-bit s (2 ^ 52 + t) x
+    go false b n = odd-sign-bit 53 s (2 ^ 52 + t) x
 
 fields-magnitude : (s : Bool) (x t : ℕ) → magnitude (ofFields binary64 s x t) ≡ ofFields binary64 false x t
 unfolding ofFields

@@ -100,13 +100,13 @@ turn a b c =
 
 -- ---- angles and the lengths of their arcs
 
--- if abs_angle == HALF_CIRCLE { self.radius * 2.0 } else { self.radius * abs_angle.normalised_to(HALF_CIRCLE) }
+-- if abs_angle == HALF_CIRCLE { self.radius * PI } else { self.radius * abs_angle.normalised_to(HALF_CIRCLE) }
 abbrev pub arcOf : Length → Angle → Length
 arcOf radius absAngle =
-    cond (angles.eq absAngle angles.HALF-CIRCLE) (lengths.mul radius (whole 2))
+    cond (angles.eq absAngle angles.HALF-CIRCLE) (lengths.mul radius pi)
     (lengths.mulAngle radius (angles.normalisedTo absAngle angles.HALF-CIRCLE))
 
--- "`angle_to_distance` of half a circle is twice the radius", with abs_angle = angle.abs()
+-- 2026-03: "Half a circle is `PI` times the radius. The other angles keep their rule", with abs_angle = angle.abs()
 unfoldable pub angleToDistance : Sphere → Angle → Length
 unfolding Ieee.eq
 angleToDistance s angle = arcOf (s .radius) (angles.abs angle)

@@ -4,7 +4,7 @@ use mathlib.Core.Bool.{true}
 use lib.IntN.{pos}
 use lib.Ieee as Ieee
 use lib.Ieee.{Float, nan, fin, ofBits, ofInt}
-use Rattle.patterns.specs.Operators.{_⊘_, whole}
+use Rattle.patterns.specs.Operators.{_⊘_, whole, pi}
 use Rattle.vectors.specs.Literal.{one}
 use Rattle.jord.specs.Angle as angle
 use Rattle.jord.specs.Length.{fromMetres, mul}
@@ -32,12 +32,12 @@ pub fraction-one : (p1 p2 : NVector) → interpolatedPosition p1 p2 one ≡ inte
 unfolding interpolatedPosition ofBits
 fraction-one p1 p2 = refl
 
--- "`angle_to_distance` of half a circle is twice the radius", whatever the sphere, and so of minus half a circle
-pub half-circle : (s : Sphere) → angleToDistance s angle.HALF-CIRCLE ≡ mul (sphere.radius s) (whole 2)
+-- 2026-03: "Half a circle is `PI` times the radius", whatever the sphere, and so is minus half a circle
+pub half-circle : (s : Sphere) → angleToDistance s angle.HALF-CIRCLE ≡ mul (sphere.radius s) pi
 unfolding angleToDistance ofBits
 half-circle s = refl
 
-pub neg-half-circle : (s : Sphere) → angleToDistance s angle.NEG-HALF-CIRCLE ≡ mul (sphere.radius s) (whole 2)
+pub neg-half-circle : (s : Sphere) → angleToDistance s angle.NEG-HALF-CIRCLE ≡ mul (sphere.radius s) pi
 unfolding angleToDistance ofBits
 neg-half-circle s = refl
 

@@ -93,16 +93,17 @@ impl Sphere {
         Angle::from_radians(base::angle_radians_between(p1.as_vec3(), p2.as_vec3()))
     }
 
-    // The length of the arc of an angle, less whole half circles; of half a circle itself, twice the radius.
+    // The length of the arc of an angle up to half a circle; of a greater one, less whole half circles.
     pub fn angle_to_distance(self, angle: Angle) -> Length
         ensures { λ r. ⌜ r ≡ spec.angleToDistance self angle ⌝ }
     {
         let abs_angle = angle.abs();
-        if abs_angle.eq(Angle::HALF_CIRCLE) {
-            return self.radius.mul(2.0);
+        if abs_angle.radians <= PI {
+            return self.radius.mul_angle(abs_angle);
         }
-        self.radius
-            .mul_angle(abs_angle.normalised_to(Angle::HALF_CIRCLE))
+        self.radius.mul_angle(Angle {
+            radians: rem(abs_angle.radians, PI),
+        })
     }
 
     // The distance of a position from a great circle: negative to its left, positive to its right.

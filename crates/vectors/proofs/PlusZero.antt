@@ -1,56 +1,23 @@
 -- 0.0 + x is x, but for -0, of which it makes +0; a zero of either sign and an x that is not zero are x. Assumes nothing.
 use mathlib.Core.Path.{_≡_, refl, sym, ap, _∙_}
-use Prim.Native.Nat.{ℕ, zero, suc, _*_, _^_, _<_}
-use native.Mathlib.Nat.{zero-mul, zero-add, mul-one, one-mul, sub-zero, mul-pos, zero-lt-suc, lt-irrefl}
-use native.Mathlib.Omega.{arith}
+use Prim.Native.Nat.{ℕ, zero, suc, _*_, _<_}
+use native.Mathlib.Nat.{zero-mul, zero-add, mul-one, one-mul, sub-zero, lt-irrefl}
 use mathlib.Core.Bool.{Bool, true, false, cond}
 use borrow.Author.Tests.{lt-ltb}
-use lib.Dec.{T, eqb→eq, eqb·suc-zero}
-use lib.IntN.{ℤ, pos, negsuc}
-use lib.Pow.{pow-pos, pow-lt}
-use lib.Ieee.{Float, nan, inf, fin, binary64, up, down, round, sum, add, neg, eq, level, fits, ofBits, toBits}
-use lib.Ieee.Exact.{round-exact}
-use lib.Ieee.Fits.{up-pos, down-pos, round-fits}
-use lib.Ieee.Scale.{round-same}
-use Rattle.patterns.specs.Bits.{digits, place}
+use lib.Dec.{T, eqb·suc-zero}
+use lib.IntN.{ℤ, pos}
+use lib.Ieee.{Float, nan, inf, fin, binary64, up, down, round, sum, add, neg, eq, level, fits, ofBits}
 use Rattle.patterns.specs.Operators.{_⊕_}
-use Rattle.patterns.proofs.Leading.{units-lt}
-use Rattle.patterns.proofs.Value.{same-value, parts-value}
+use Rattle.patterns.proofs.Held.{round-held, zero-exponent, above-zero}
 use Rattle.vectors.specs.Literal as literal
 use Rattle.vectors.specs.Zero.{isMinusZero}
-
--- a value of the format is its own rounding
-pub round-held : (s : Bool) (m : ℕ) (e : ℤ) → T (fits binary64 (fin s m e)) → round binary64 s (m * up e) (down e) ≡ fin s m e
-round-held s m e f =
-    let x = fin s m e in
-    let q = digits (toBits binary64 x) in
-    let k = place (toBits binary64 x) in
-    let p = parts-value x f tt in
-    let small = p .placed .small in
-    round-same binary64 s (m * up e) (down e) (q * 2 ^ k) (2 ^ 1074) (down-pos e) (pow-pos 1074) (p .value .1)
-    ∙ same-value (round binary64 s (q * 2 ^ k) (2 ^ 1074)) x s (q * 2 ^ k) (round-fits binary64 s (q * 2 ^ k) (2 ^ 1074)) f
-    (round-exact binary64 s (q * 2 ^ k) (2 ^ 1074) q k (pow-pos 1074) small (units-lt q k small (p .placed .under)) refl)
-    (p .value)
-
--- a zero has one exponent
-not-one : (n k : ℕ) → n ≡ 2 ^ suc k → n ≡ 1 → ⊥
-not-one n k p e = let h : 1 < 2 ^ suc k = pow-lt {i = 0} {j = suc k} (omega arith) in omega arith
-
-pub zero-exponent : (s : Bool) (e : ℤ) → T (fits binary64 (fin s zero e)) → e ≡ pos 0
-unfolding fits
-zero-exponent s (pos zero) f = refl
-zero-exponent s (pos (suc k)) f = absurd (not-one _ k (mul-one (2 ^ suc k)) (eqb→eq _ 1 f))
-zero-exponent s (negsuc k) f = absurd (not-one _ k (one-mul (2 ^ suc k)) (eqb→eq _ 1 f))
 
 of-zero : (s : Bool) → literal.zero ⊕ fin s 0 (pos 0) ≡ cond (isMinusZero (fin s 0 (pos 0))) literal.zero (fin s 0 (pos 0))
 unfolding add eq ofBits
 of-zero true = refl
 of-zero false = refl
 
--- the other finite values are not zero
-pub above-zero : (m : ℕ) (e : ℤ) → 0 < suc m * up e
-above-zero m e = mul-pos (zero-lt-suc m) (up-pos e)
-
+-- the other finite values are not -0
 not-zero : (s : Bool) (m : ℕ) (e : ℤ) → isMinusZero (fin s (suc m) e) ≡ false
 unfolding eq ofBits
 not-zero false m e = refl

@@ -13,7 +13,7 @@ use Rattle.patterns.specs.Operators.{_⊕_, _⊖_, _⊗_, _⊘_}
 use Rattle.float.specs.Trig.{sin, cos, atan2}
 use Rattle.patterns.proofs.NonFinite.{nonFinite}
 use Rattle.vectors.specs.Literal as literal
-use Rattle.vectors.proofs.PlusZero.{above-zero}
+use Rattle.patterns.proofs.Held.{above-zero}
 use Rattle.walks.specs.Walk as walks
 use Rattle.walks.specs.Walk.{mostSteps, walk, chaseNew, chaseStart, sep, corrected, minCorrectionAt, intMinStep}
 use Rattle.walks.specs.Outcome.{ofSeconds}

@@ -13,7 +13,7 @@ use Rattle.float.specs.Trig.{sin}
 use Rattle.patterns.proofs.NonFinite.{nonFinite, mul-non-finite, non-finite-mul, sub-non-finite, div-non-finite}
 use Rattle.float.proofs.Tangent.{atan2-fits}
 use Rattle.vectors.specs.Literal as literal
-use Rattle.vectors.proofs.PlusZero.{zero-exponent}
+use Rattle.patterns.proofs.Held.{zero-exponent}
 use Rattle.walks.specs.Walk.{sep, interceptEpsilon, corrected, minQuotient, minCorrectionAt, minCorrection, intMinStep}
 use Rattle.walks.specs.declared.Chase.{Chase}
 use Rattle.walks.specs.declared.Step.the-variants as step

@@ -1,7 +1,7 @@
 -- A correction that leaves a time where it was, as floats compare, leaves that very value, unless it is below 1e-11: of values that
 -- compare equal only the two zeros differ, and a zero less anything but a zero is none. Assumes nothing.
 use mathlib.Core.Path.{_≡_, refl, sym, _∙_}
-use mathlib.Core.Bool.{Bool, true, false, not, _&&_, false≢true}
+use mathlib.Core.Bool.{Bool, true, false, not, false≢true}
 use Prim.Native.Nat.{ℕ, zero, suc, _*_, _<_}
 use native.Mathlib.Nat.{zero-mul, mul-pos, zero-lt-suc}
 use native.Mathlib.Omega.{arith}
@@ -9,44 +9,12 @@ use borrow.Author.Tests.{eqb-true}
 use lib.Dec.{T, eqb}
 use lib.IntN.{ℤ, pos}
 use lib.Ieee.{Float, nan, inf, fin, binary64, up, down, add, sub, neg, eq, lt, level, fits, ofBits}
-use lib.Ieee.Fits.{down-pos, sub-fits, neg-fits}
-use lib.Ieee.Scale.{round-same}
+use lib.Ieee.Fits.{sub-fits, neg-fits}
 use Rattle.patterns.specs.Operators.{_⊖_}
 use Rattle.patterns.specs.Bits.{magnitude}
-use Rattle.vectors.proofs.PlusZero.{round-held, zero-exponent, above-zero, zero-plus}
+use Rattle.patterns.proofs.Held.{both-hold, zero-exponent, above-zero, eq-same}
+use Rattle.vectors.proofs.PlusZero.{zero-plus}
 use Rattle.walks.specs.Walk.{interceptEpsilon}
-
-both-hold : (p q : Bool) → p && q ≡ true → (p ≡ true) × (q ≡ true)
-both-hold true q e = (refl, e)
-both-hold false q e = absurd (false≢true e)
-
--- ---- values that compare equal
-
-same-finite : (s : Bool) (n m : ℕ) (d e : ℤ) → T (fits binary64 (fin s n d)) → T (fits binary64 (fin s m e))
-    → n * up d * down e ≡ m * up e * down d → fin s n d ≡ fin s m e
-same-finite s n m d e f g h =
-    sym (round-held s n d f) ∙ round-same binary64 s (n * up d) (down d) (m * up e) (down e) (down-pos d) (down-pos e) h ∙ round-held s m e g
-
--- numbers above zero of unlike signs are not level
-unlike-signs : (a b : ℕ) → 0 < b → eqb a b && eqb a 0 ≡ true → ⊥
-unlike-signs a b h e =
-    let w = both-hold (eqb a b) (eqb a 0) e in
-    omega (arith, eqb-true a b (w .0), eqb-true a 0 (w .1))
-
-level-finite : (t s : Bool) (n m : ℕ) (d e : ℤ) → T (fits binary64 (fin t n d)) → T (fits binary64 (fin s m e)) → 0 < m * up e * down d
-    → level t (n * up d * down e) s (m * up e * down d) ≡ true → fin t n d ≡ fin s m e
-level-finite true true n m d e f g p h = same-finite true n m d e f g (eqb-true _ _ (both-hold (eqb (n * up d * down e) (m * up e * down d)) true h .0))
-level-finite false false n m d e f g p h = same-finite false n m d e f g (eqb-true _ _ (both-hold (eqb (n * up d * down e) (m * up e * down d)) true h .0))
-level-finite true false n m d e f g p h = absurd (unlike-signs (n * up d * down e) (m * up e * down d) p h)
-level-finite false true n m d e f g p h = absurd (unlike-signs (n * up d * down e) (m * up e * down d) p h)
-
--- a value that compares equal to one that is not zero is that one
-eq-same : (x : Float) (s : Bool) (m : ℕ) (e : ℤ) → T (fits binary64 x) → T (fits binary64 (fin s (suc m) e)) → eq x (fin s (suc m) e) ≡ true
-    → x ≡ fin s (suc m) e
-unfolding eq
-eq-same nan s m e f g h = absurd (false≢true h)
-eq-same (inf t) s m e f g h = absurd (false≢true h)
-eq-same (fin t n d) s m e f g h = level-finite t s n (suc m) d e f g (mul-pos (above-zero m e) (down-pos d)) h
 
 -- ---- a zero less a correction
 

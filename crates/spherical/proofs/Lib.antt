@@ -1,0 +1,2 @@
+pub mod HalfCircle
+pub mod Rising
