@@ -1,9 +1,9 @@
 -- Request 2026-03 without a special case: an angle up to half a circle is itself, a greater one is less whole half circles. And what of the
 -- old answers the request keeps. Assumes nothing.
 use mathlib.Core.Path.{_≡_, refl, sym, ap, _∙_}
-use mathlib.Core.Bool.{Bool, true, false, cond, _||_, false≢true}
+use mathlib.Core.Bool.{Bool, true, false, cond, false≢true}
 use mathlib.Core.Logic.{_⊎_, inl, inr, ⊎-elim}
-use Prim.Native.Nat.{ℕ, _*_, _%_, zero-le}
+use Prim.Native.Nat.{ℕ, suc, _*_, _%_, zero-le}
 use native.Mathlib.Nat.{zero-mul}
 use borrow.Author.Tests.{le-ltb}
 use lib.Dec.{T, eqb}
@@ -25,8 +25,14 @@ use Rattle.spherical.specs.Before as before
 use Rattle.spherical.specs.Sphere.{arcOf, angleToDistance}
 use Rattle.spherical.specs.declared.sphere.Sphere.{Sphere}
 
--- `PI` as a fraction
-pub pi-is : pi ≡ fin false 884279719003555 (negsuc 47)
+-- `PI` is 884279719003555 * 2 ^ -48
+abbrev pub piLessOne : ℕ
+piLessOne = 884279719003554
+
+abbrev pub piPlace : ℤ
+piPlace = negsuc 47
+
+pub pi-is : pi ≡ fin false (suc piLessOne) piPlace
 unfolding ofBits
 pi-is = refl
 
@@ -39,7 +45,9 @@ true-of false t = absurd t
 from-zero : (m : ℕ) (e : ℤ) → le zero (fin false m e) ≡ true
 unfolding ofBits
 from-zero m e =
-    true-of _ (le-of-values (fin false 0 (pos 0)) (fin false m e) 0 1 (m * up e) (down e) (down-pos (pos 0)) (down-pos e) (refl, refl) (refl, refl) (rw (zero-mul (down e)) zero-le))
+    true-of _
+    (le-of-values (fin false 0 (pos 0)) (fin false m e) 0 1 (m * up e) (down e) (down-pos (pos 0)) (down-pos e) (refl, refl) (refl, refl)
+    (rw (zero-mul (down e)) zero-le))
 
 not-below : (x : Float) → signBit x ≡ false → lt x zero ≡ false
 unfolding lt ofBits
@@ -57,7 +65,7 @@ rem-sign m n e d = go (eqb n 0)
     go false = round-sign false (m * up e * down d % (n * up d * down e)) (down e * down d)
 
 rem-not-below : (m : ℕ) (e : ℤ) → lt (rem binary64 (fin false m e) pi) zero ≡ false
-rem-not-below m e = rw pi-is (not-below _ (rem-sign m 884279719003555 e (negsuc 47)))
+rem-not-below m e = rw pi-is (not-below _ (rem-sign m (suc piLessOne) e piPlace))
 
 -- ---- without a special case
 
@@ -71,7 +79,7 @@ module _ (l : Length) (m : ℕ) (e : ℤ) where
 
   of-half : eq a pi ≡ true → l .metres ⊗ pi ≡ a ⊗ l .metres
   unfolding ofBits
-  of-half p = product-comm (l .metres) pi ∙ sym (product-of-equal false m 884279719003554 e (negsuc 47) (l .metres) (rw pi-is at p))
+  of-half p = product-comm (l .metres) pi ∙ sym (product-of-equal false m piLessOne e piPlace (l .metres) (rw pi-is at p))
 
   by-tests : (equal below : Bool) → eq a pi ≡ equal → lt a pi ≡ below → arcOf l (fromRadians a) ≡ mulAngle l (fromRadians (lessHalves a))
   unfolding normalisedTo
@@ -93,8 +101,8 @@ pi-or-minus-pi : (x : Float) → T (fits binary64 x) → eq (magnitude x) pi ≡
 unfolding eq fits ofBits neg
 pi-or-minus-pi nan f h = absurd (false≢true h)
 pi-or-minus-pi (inf s) f h = absurd (false≢true h)
-pi-or-minus-pi (fin false m e) f h = inl (eq-same (fin false m e) false 884279719003554 (negsuc 47) f tt h)
-pi-or-minus-pi (fin true m e) f h = inr (ap neg (eq-same (fin false m e) false 884279719003554 (negsuc 47) (neg-fits binary64 (fin true m e) f) tt h))
+pi-or-minus-pi (fin false m e) f h = inl (eq-same (fin false m e) false piLessOne piPlace f tt h)
+pi-or-minus-pi (fin true m e) f h = inr (ap neg (eq-same (fin false m e) false piLessOne piPlace (neg-fits binary64 (fin true m e) f) tt h))
 
 pub others-keep : before.OthersKeep
 unfolding angleToDistance before.angleToDistance

@@ -2,8 +2,8 @@
 -- Assumes nothing.
 use mathlib.Core.Path.{_≡_, sym, subst}
 use mathlib.Core.Bool.{true, false}
+use Prim.Native.Nat.{suc}
 use lib.Dec.{T}
-use lib.IntN.{negsuc}
 use lib.Ieee.{Float, nan, inf, fin, le, ofBits}
 use lib.Ieee.Positive.{positive}
 use Rattle.patterns.specs.Bits.{magnitude}
@@ -13,7 +13,7 @@ use Rattle.jord.specs.declared.angle.Angle.{Angle}
 use Rattle.spherical.specs.Rising.{DistanceMono}
 use Rattle.spherical.specs.Sphere.{angleToDistance}
 use Rattle.spherical.specs.declared.sphere.Sphere.{Sphere}
-use Rattle.spherical.proofs.HalfCircle.{true-of, pi-is, arc-of}
+use Rattle.spherical.proofs.HalfCircle.{true-of, piLessOne, piPlace, pi-is, arc-of}
 
 -- up to half a circle a distance is a product
 of-angle : (s : Sphere) (a : Angle) → T (le (magnitude (a .radians)) pi) → angleToDistance s a .metres ≡ magnitude (a .radians) ⊗ s .radius .metres
@@ -39,7 +39,7 @@ products (fin s m e) nan (fin false k c) p l h = absurd l
 products (fin s m e) (inf t) (fin false k c) p l h = absurd (not-infinite h)
 products (fin s m e) (fin t n d) (fin false k c) p l h =
     let half = subst (λ (z : Float). T (le (fin false n d) z)) pi-is h in
-    (subst (λ (z : Float). T (le (fin false m e) z)) (sym pi-is) (le-through m n 884279719003555 e d (negsuc 47) l half), product-mono m n e d k c l)
+    (subst (λ (z : Float). T (le (fin false m e) z)) (sym pi-is) (le-through m n (suc piLessOne) e d piPlace l half), product-mono m n e d k c l)
 
 pub distance-mono : DistanceMono
 distance-mono s a b p l h =
