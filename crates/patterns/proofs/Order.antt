@@ -1,4 +1,4 @@
--- Finite values whose sign bit is clear: their order is that of their fractions, one order leads to another, and a product rises with a factor.
+-- Finite values whose sign bit is clear: their order is that of their fractions, it goes through a third, and a product does not fall as a factor grows.
 -- Assumes nothing.
 use mathlib.Core.Path.{_≡_, refl}
 use mathlib.Core.Bool.{Bool, true, false, _&&_, _||_}
@@ -6,7 +6,7 @@ use Prim.Native.Nat.{ℕ, _*_, _≤_, _<_}
 use native.Mathlib.Nat.{le-trans, le-of-eq, le-of-lt, mul-le-mul-right, mul-mul-mul-comm, mul-pos}
 use lib.Dec.{T, ltb, eqb, ltb→lt, eqb→eq}
 use lib.IntN.{ℤ}
-use lib.Ieee.{Float, fin, binary64, up, down, mul, le}
+use lib.Ieee.{fin, binary64, up, down, mul, le}
 use lib.Ieee.Fits.{down-pos}
 use lib.Ieee.Order.{le-of-values, round-mono}
 use lib.Ieee.Positive.{through}

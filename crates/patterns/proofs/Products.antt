@@ -1,13 +1,13 @@
 -- A product of floats: the factors in either order, and a factor that compares equal to another that is not zero. Assumes nothing.
 use mathlib.Core.Path.{_≡_, refl, sym, ap, _∙_}
-use mathlib.Core.Bool.{Bool, true, false, cond, false≢true}
+use mathlib.Core.Bool.{Bool, true, false}
 use Prim.Native.Nat.{ℕ, zero, suc, _*_, _<_}
 use native.Mathlib.Nat.{zero-mul, mul-comm, mul-mul-mul-comm, mul-pos}
 use native.Mathlib.Omega.{arith}
 use borrow.Author.Tests.{eqb-true}
 use lib.Dec.{eqb, eqb·suc-zero}
 use lib.IntN.{ℤ}
-use lib.Ieee.{Float, nan, inf, fin, binary64, up, down, unlike, round, mul, eq}
+use lib.Ieee.{Float, nan, inf, fin, binary64, up, down, unlike, mul, eq}
 use lib.Ieee.Fits.{down-pos}
 use lib.Ieee.Scale.{round-same}
 use Rattle.patterns.specs.Operators.{_⊗_}

@@ -9,6 +9,7 @@ use borrow.Author.Tests.{le-ltb}
 use lib.Dec.{T, eqb}
 use lib.IntN.{ℤ, pos, negsuc}
 use lib.Ieee.{Float, nan, inf, fin, binary64, up, down, ofBits, round, neg, eq, lt, le, rem, fits}
+use lib.Ieee.Bits.{is-true}
 use lib.Ieee.Fits.{down-pos, neg-fits}
 use lib.Ieee.Order.{le-of-values}
 use Rattle.patterns.specs.Bits.{magnitude, signBit}
@@ -17,13 +18,11 @@ use Rattle.patterns.proofs.Held.{eq-same}
 use Rattle.patterns.proofs.Products.{product-comm, product-of-equal}
 use Rattle.patterns.proofs.Sign.{round-sign}
 use Rattle.vectors.specs.Literal.{zero}
-use Rattle.jord.specs.Angle.{fromRadians, normalisedTo, HALF-CIRCLE, NEG-HALF-CIRCLE}
+use Rattle.jord.specs.Angle.{fromRadians, normalisedTo, NEG-HALF-CIRCLE}
 use Rattle.jord.specs.Length.{fromMetres, mulAngle}
 use Rattle.jord.specs.declared.length.Length.{Length}
-use Rattle.jord.specs.declared.angle.Angle.{Angle}
 use Rattle.spherical.specs.Before as before
 use Rattle.spherical.specs.Sphere.{arcOf, angleToDistance}
-use Rattle.spherical.specs.declared.sphere.Sphere.{Sphere}
 
 -- `PI` is 884279719003555 * 2 ^ -48
 abbrev pub piLessOne : ℕ
@@ -38,14 +37,10 @@ pi-is = refl
 
 -- ---- floats without a sign bit lie at zero or above
 
-pub true-of : (b : Bool) → T b → b ≡ true
-true-of true t = refl
-true-of false t = absurd t
-
 from-zero : (m : ℕ) (e : ℤ) → le zero (fin false m e) ≡ true
 unfolding ofBits
 from-zero m e =
-    true-of _
+    is-true _
     (le-of-values (fin false 0 (pos 0)) (fin false m e) 0 1 (m * up e) (down e) (down-pos (pos 0)) (down-pos e) (refl, refl) (refl, refl)
     (rw (zero-mul (down e)) zero-le))
 

@@ -1,2 +1,2 @@
 pub mod HalfCircle
-pub mod Rising
+pub mod Monotone

@@ -1,6 +1,6 @@
 pub mod Before
 pub mod Interpolated
-pub mod Rising
+pub mod Monotone
 pub mod Sphere
 pub mod Table
 pub mod Together

@@ -1,5 +1,5 @@
 -- `angle_to_distance` meets its contract: half a circle needs no case of its own (`arc-of`).
-use mathlib.Core.Path.{_≡_, sym, _∙_}
+use mathlib.Core.Path.{_≡_}
 use Rattle.jord.specs.Angle.{fromRadians}
 use Rattle.jord.specs.Length.{mulAngle}
 use Rattle.spherical.specs.Sphere.{angleToDistance}
@@ -8,7 +8,8 @@ use Rattle.spherical.proofs.sphere.Sphere.angle_to_distance.Statement.{
 use Rattle.spherical.proofs.sphere.Sphere.angle_to_distance.Tie as tie
 
 -- what is owed, over the result of `abs`
-owed : (c : tie.After-abs) → angleToDistance (c .before .args .self) (c .before .args .angle) ≡ mulAngle (c .before .args .self .radius) (fromRadians (lessHalves (c .abs .result .radians)))
+owed : (c : tie.After-abs) → angleToDistance (c .before .args .self) (c .before .args .angle)
+    ≡ mulAngle (c .before .args .self .radius) (fromRadians (lessHalves (c .abs .result .radians)))
 unfolding angleToDistance
 owed c = rw (c .abs .ensures) (arc-of (c .before .args .self .radius) (c .before .args .angle .radians))
 

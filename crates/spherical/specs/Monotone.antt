@@ -1,4 +1,4 @@
--- What a chart user asks of `angle_to_distance`: up to half a circle distances rise with the angle. Definitions only.
+-- What a chart user asks of `angle_to_distance`: up to half a circle no distance falls as the angle grows. Definitions only.
 use lib.Dec.{T}
 use lib.Ieee.{le}
 use lib.Ieee.Positive.{positive}

@@ -1,24 +1,25 @@
--- Up to half a circle the distance of an angle is never below that of a smaller one: a product with the radius, which rises with the angle.
+-- Up to half a circle the distance of an angle is never below that of a smaller one: it is a product with the radius.
 -- Assumes nothing.
 use mathlib.Core.Path.{_≡_, sym, subst}
 use mathlib.Core.Bool.{true, false}
 use Prim.Native.Nat.{suc}
 use lib.Dec.{T}
 use lib.Ieee.{Float, nan, inf, fin, le, ofBits}
+use lib.Ieee.Bits.{is-true}
 use lib.Ieee.Positive.{positive}
 use Rattle.patterns.specs.Bits.{magnitude}
 use Rattle.patterns.specs.Operators.{_⊗_, pi}
 use Rattle.patterns.proofs.Order.{le-through, product-mono}
 use Rattle.jord.specs.declared.angle.Angle.{Angle}
-use Rattle.spherical.specs.Rising.{DistanceMono}
+use Rattle.spherical.specs.Monotone.{DistanceMono}
 use Rattle.spherical.specs.Sphere.{angleToDistance}
 use Rattle.spherical.specs.declared.sphere.Sphere.{Sphere}
-use Rattle.spherical.proofs.HalfCircle.{true-of, piLessOne, piPlace, pi-is, arc-of}
+use Rattle.spherical.proofs.HalfCircle.{piLessOne, piPlace, pi-is, arc-of}
 
 -- up to half a circle a distance is a product
 of-angle : (s : Sphere) (a : Angle) → T (le (magnitude (a .radians)) pi) → angleToDistance s a .metres ≡ magnitude (a .radians) ⊗ s .radius .metres
 unfolding angleToDistance
-of-angle s a h = rw (arc-of (s .radius) (a .radians), true-of (le (magnitude (a .radians)) pi) h)
+of-angle s a h = rw (arc-of (s .radius) (a .radians), is-true (le (magnitude (a .radians)) pi) h)
 
 -- no magnitude that is at most `PI` is infinite
 not-infinite : T (le (inf false) pi) → ⊥
