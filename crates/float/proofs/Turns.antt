@@ -1,8 +1,8 @@
--- The last arm of the choice by j. Assumes nothing.
+-- The last arm of the choice by j, and what a NaN is reduced to. Assumes nothing.
 use mathlib.Core.Path.{_≡_, refl}
 use Prim.Native.Nat.{ℕ, zero, suc}
-use lib.Ieee.{Float}
-use Rattle.float.specs.Trig.{sineAt, cosineAt, sineSeries, cosineSeries}
+use lib.Ieee.{Float, nan, rem, ofBits}
+use Rattle.float.specs.Trig.{sin, cos, sinCos, reduced, sineAt, cosineAt, sineSeries, cosineSeries}
 
 pub sine-past : (j : ℕ) (y : Float) → (j ≡ 0 → ⊥) → (j ≡ 1 → ⊥) → (j ≡ 2 → ⊥) → (j ≡ 3 → ⊥) → sineAt j y ≡ sineSeries y
 sine-past zero y a b c d = refl
@@ -17,3 +17,12 @@ cosine-past (suc zero) y a b c d = absurd (b refl)
 cosine-past (suc (suc zero)) y a b c d = absurd (c refl)
 cosine-past (suc (suc (suc zero))) y a b c d = absurd (d refl)
 cosine-past (suc (suc (suc (suc j)))) y a b c d = refl
+
+-- ---- a NaN
+pub reduced-nan : reduced nan ≡ nan
+unfolding reduced rem
+reduced-nan = refl
+
+pub sin-cos-nan : sinCos nan ≡ record { sin = nan; cos = nan }
+unfolding sin cos ofBits
+sin-cos-nan = refl

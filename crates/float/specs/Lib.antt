@@ -1,3 +1,4 @@
 pub mod Trig
+pub mod Once
 pub mod Degrees
 pub mod Table

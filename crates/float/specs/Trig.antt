@@ -4,6 +4,7 @@ use mathlib.Core.Bool.{Bool, false, _||_, cond}
 use lib.Ieee.{Float, nan, inf, binary64, rem, neg, lt, eq, isNan, ofBits, ofInt, add, sub, mul, div}
 use Rattle.patterns.specs.Bits.{magnitude, signBit}
 use Rattle.patterns.specs.Operators.{_⊕_, _⊖_, _⊗_, _⊘_, whole, pi}
+use Rattle.float.specs.declared.trig.SinCos.{SinCos}
 
 -- ---- Horner's rule
 abbrev pub factorial : ℕ → ℕ
@@ -87,6 +88,10 @@ sin x = negatedIf (signBit x) (sineAt (quarters (reduced x)) (offset (reduced x)
 unfoldable pub cos : Float → Float
 unfolding reduced quarters offset neg add mul div ofInt
 cos x = cosineAt (quarters (reduced x)) (offset (reduced x) (quarters (reduced x)))
+
+-- request 2026-04: both of one angle
+abbrev pub sinCos : Float → SinCos
+sinCos x = record { sin = sin x; cos = cos x }
 
 -- ---- atan2
 abbrev pub arcCoefficient : ℕ → Float

@@ -1,5 +1,6 @@
 // Sine, cosine and atan2 in document 01's words, operation by operation.
 ghost use mathlib.Core.Path.{_≡_};
+ghost use Rattle.float.specs.Once as once;
 ghost use Rattle.float.specs.Trig as spec;
 use patterns::magnitude;
 use patterns::sign_bit;
@@ -9,6 +10,18 @@ pub const PI: f64 = 3.141592653589793;
 
 // Above this ratio, near the tangent of PI / 8, the arc is taken from PI / 4.
 const ARC_BOUND: f64 = 0.4140625;
+
+// The sine and the cosine of one angle.
+pub struct SinCos {
+    pub sin: f64,
+    pub cos: f64,
+}
+
+// What is left of an angle's magnitude: j quarter turns and y radians.
+struct Reduction {
+    j: u8,
+    y: f64,
+}
 
 // S: y times the Horner value in y * y of (-1)^k / (2k + 1)!, k from 8 down to 0.
 fn sine_series(y: f64) -> f64
@@ -48,6 +61,9 @@ fn cosine_series(y: f64) -> f64
 fn reduced(x: f64) -> f64
     ensures { λ r. ⌜ r ≡ spec.reduced x ⌝ }
 {
+    if x != x {
+        return x;
+    }
     rem(magnitude(x), 2.0 * PI)
 }
 
@@ -77,6 +93,16 @@ fn offset(r: f64, j: u8) -> f64
     r - (j as f64) * (PI / 2.0)
 }
 
+// j and y of an angle: one reduction for sine, cosine and both.
+fn reduce(x: f64) -> Reduction
+    ensures { λ r. ⌜ r ≡ once.reduce x ⌝ }
+{
+    let r = reduced(x);
+    let j = quarters(r);
+    let y = offset(r, j);
+    Reduction { j, y }
+}
+
 // Sine for j 0 to 4: S, C, -S, -C, S.
 fn sine_at(j: u8, y: f64) -> f64
     ensures { λ r. ⌜ r ≡ spec.sineAt j y ⌝ }
@@ -103,22 +129,51 @@ fn cosine_at(j: u8, y: f64) -> f64
     }
 }
 
+// Both for j 0 to 4, from one S and one C.
+fn both_at(j: u8, y: f64) -> SinCos
+    ensures { λ r. ⌜ r ≡ once.bothAt j y ⌝ }
+{
+    let s = sine_series(y);
+    let c = cosine_series(y);
+    match j {
+        0 => SinCos { sin: s, cos: c },
+        1 => SinCos { sin: c, cos: -s },
+        2 => SinCos { sin: -s, cos: -c },
+        3 => SinCos { sin: -c, cos: s },
+        _ => SinCos { sin: s, cos: c },
+    }
+}
+
+// Sine and cosine at once; NaNs for a NaN or an infinity.
+pub fn sin_cos(x: f64) -> SinCos
+    ensures { λ r. ⌜ r ≡ spec.sinCos x ⌝ }
+{
+    // A NaN leaves first, so that no test for one lengthens the way of the others.
+    if x != x {
+        return SinCos { sin: x, cos: x };
+    }
+    let a = reduce(x);
+    let both = both_at(a.j, a.y);
+    SinCos {
+        sin: negated_if(sign_bit(x), both.sin),
+        cos: both.cos,
+    }
+}
+
 // The sine; a NaN for a NaN or an infinity.
 pub fn sin(x: f64) -> f64
     ensures { λ r. ⌜ r ≡ spec.sin x ⌝ }
 {
-    let r = reduced(x);
-    let j = quarters(r);
-    negated_if(sign_bit(x), sine_at(j, offset(r, j)))
+    let a = reduce(x);
+    negated_if(sign_bit(x), sine_at(a.j, a.y))
 }
 
 // The cosine; a NaN for a NaN or an infinity.
 pub fn cos(x: f64) -> f64
     ensures { λ r. ⌜ r ≡ spec.cos x ⌝ }
 {
-    let r = reduced(x);
-    let j = quarters(r);
-    cosine_at(j, offset(r, j))
+    let a = reduce(x);
+    cosine_at(a.j, a.y)
 }
 
 // u times the Horner value in u * u of (-1)^k / (2k + 1), k from 20 down to 0.
