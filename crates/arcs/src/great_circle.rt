@@ -2,8 +2,7 @@
 ghost use mathlib.Core.Path.{_≡_};
 ghost use Rattle.arcs.specs.GreatCircle as spec;
 use crate::base::easting;
-use float::trig::cos;
-use float::trig::sin;
+use float::trig::sin_cos;
 use jord::angle::Angle;
 use jord::positions::NVector;
 use vectors::vec3::Vec3;
@@ -30,9 +29,9 @@ impl GreatCircle {
         let v = p.as_vec3();
         let e = easting(v);
         let n = v.cross_prod(e);
-        let b_rads = bearing.radians;
-        let se = e.mul(cos(b_rads) / e.norm());
-        let sn = n.mul(sin(b_rads) / n.norm());
+        let b = sin_cos(bearing.radians);
+        let se = e.mul(b.cos / e.norm());
+        let sn = n.mul(b.sin / n.norm());
         GreatCircle { normal: sn.sub(se) }
     }
 

@@ -1,8 +1,7 @@
 // The course of a vehicle.
 ghost use mathlib.Core.Path.{_≡_};
 ghost use Rattle.walks.specs.Course as spec;
-use float::trig::cos;
-use float::trig::sin;
+use float::trig::sin_cos;
 use jord::positions::LatLong;
 use jord::vehicle::Vehicle;
 use vectors::mat33::Mat33;
@@ -25,8 +24,9 @@ pub fn course(vehicle: Vehicle) -> Vec3
 fn course_rx(theta: f64) -> Mat33
     ensures { λ r. ⌜ r ≡ spec.courseRx theta ⌝ }
 {
-    let c = cos(theta);
-    let s = sin(theta);
+    let a = sin_cos(theta);
+    let c = a.cos;
+    let s = a.sin;
     Mat33::new(Vec3::UNIT_X, Vec3::new(0.0, c, s), Vec3::new(0.0, -s, c))
 }
 
@@ -34,8 +34,9 @@ fn course_rx(theta: f64) -> Mat33
 fn course_ry(theta: f64) -> Mat33
     ensures { λ r. ⌜ r ≡ spec.courseRy theta ⌝ }
 {
-    let c = cos(theta);
-    let s = sin(theta);
+    let a = sin_cos(theta);
+    let c = a.cos;
+    let s = a.sin;
     Mat33::new(Vec3::new(c, 0.0, -s), Vec3::UNIT_Y, Vec3::new(s, 0.0, c))
 }
 
@@ -43,7 +44,8 @@ fn course_ry(theta: f64) -> Mat33
 fn course_rz(theta: f64) -> Mat33
     ensures { λ r. ⌜ r ≡ spec.courseRz theta ⌝ }
 {
-    let c = cos(theta);
-    let s = sin(theta);
+    let a = sin_cos(theta);
+    let c = a.cos;
+    let s = a.sin;
     Mat33::new(Vec3::new(c, s, 0.0), Vec3::new(-s, c, 0.0), Vec3::UNIT_Z)
 }

@@ -1,14 +1,17 @@
 // The walks: Newton's method towards the closest approach, over hours, and towards an intercept, over seconds.
 ghost use mathlib.Core.Path.{_≡_};
+ghost use Rattle.chases.specs.Gone as shared;
 ghost use Rattle.walks.specs.Walk as spec;
 use crate::course::course;
 use arcs::base::angle_radians_between;
-use float::trig::cos;
+use float::trig::SinCos;
 use float::trig::sin;
+use float::trig::sin_cos;
 use jord::length::Length;
 use jord::positions::NVector;
 use jord::vehicle::Vehicle;
 use patterns::magnitude;
+use patterns::to_bits;
 use vectors::vec3::Vec3;
 use walks::Chase;
 use walks::Cpa;
@@ -70,17 +73,13 @@ fn cpa_coefficients(p10: Vec3, c10: Vec3, w1: f64, p20: Vec3, c20: Vec3, w2: f64
 fn sines_at(k: Cpa, t: f64) -> Sines
     ensures { λ r. ⌜ r ≡ spec.sinesAt k t ⌝ }
 {
-    let w1t = k.w1 * t;
-    let w2t = k.w2 * t;
-    let sw1t = sin(w1t);
-    let sw2t = sin(w2t);
-    let cw1t = cos(w1t);
-    let cw2t = cos(w2t);
+    let w1t = sin_cos(k.w1 * t);
+    let w2t = sin_cos(k.w2 * t);
     Sines {
-        sw1t,
-        sw2t,
-        cw1t,
-        cw2t,
+        sw1t: w1t.sin,
+        sw2t: w2t.sin,
+        cw1t: w1t.cos,
+        cw2t: w2t.cos,
     }
 }
 
@@ -173,19 +172,37 @@ pub fn chase_start(k: Chase) -> f64
     k.radius * s0 / k.s2
 }
 
-// The position after t seconds on the course c from v0, at mps metres a second on a sphere of this radius in metres.
-fn pos(v0: Vec3, c: Vec3, mps: f64, t: f64, radius: f64) -> Vec3
-    ensures { λ r. ⌜ r ≡ spec.pos v0 c mps t radius ⌝ }
-{
-    let a = mps / radius * t;
-    v0.mul(cos(a)).add(c.mul(sin(a)))
+// The sine and cosine of the angle that an intruder has gone through: `w2 * t`, and as `pos` has it, `s2 / radius * t`.
+struct Gone {
+    w2t: SinCos,
+    pos: SinCos,
 }
 
-// The angle in radians between the interceptor's position and the intruder after t seconds.
-fn sep(k: Chase, t: f64) -> f64
-    ensures { λ r. ⌜ r ≡ spec.sep k t ⌝ }
+// Both after t seconds. The coefficients of `chase_new` have one angular speed, so that one angle is worked out; others may have two.
+fn gone_at(k: Chase, t: f64) -> Gone
+    ensures { λ r. ⌜ r ≡ shared.goneAt k t ⌝ }
 {
-    angle_radians_between(k.v10, pos(k.v20, k.c2, k.s2, t, k.radius))
+    let w2t = sin_cos(k.w2 * t);
+    let w = k.s2 / k.radius;
+    if to_bits(w) == to_bits(k.w2) {
+        return Gone { w2t, pos: w2t };
+    }
+    let pos = sin_cos(w * t);
+    Gone { w2t, pos }
+}
+
+// The position on the course c from v0 at an angle of this sine and cosine.
+fn pos(v0: Vec3, c: Vec3, a: SinCos) -> Vec3
+    ensures { λ r. ⌜ r ≡ shared.posBy v0 c a ⌝ }
+{
+    v0.mul(a.cos).add(c.mul(a.sin))
+}
+
+// The angle in radians between the interceptor's position and the intruder at an angle of this sine and cosine from its start.
+fn sep(k: Chase, a: SinCos) -> f64
+    ensures { λ r. ⌜ r ≡ shared.sepBy k a ⌝ }
+{
+    angle_radians_between(k.v10, pos(k.v20, k.c2, a))
 }
 
 // What the correction fi makes of a time: the corrected time, accepted where the correction is small, or too small to move the time.
@@ -206,17 +223,19 @@ fn corrected(ti: f64, fi: f64) -> Step
 pub fn int_min_step(k: Chase, ti: f64) -> Step
     ensures { λ r. ⌜ r ≡ spec.intMinStep k ti ⌝ }
 {
-    let cosw2t = cos(k.w2 * ti);
-    let sinw2t = sin(k.w2 * ti);
+    let at = gone_at(k, ti);
+    let cosw2t = at.w2t.cos;
+    let sinw2t = at.w2t.sin;
     let v10dv2dt = -k.w2 * (k.v10v20 * sinw2t - k.v10c2 * cosw2t);
     let v10d2v2dt2 = (-k.w2 * k.w2) * (k.v10v20 * cosw2t + k.v10c2 * sinw2t);
-    let si = sep(k, ti);
+    let si = sep(k, at.pos);
     if si == 0.0 {
         return Step::Accepted(ti);
     }
-    let sin_si = sin(si);
+    let s = sin_cos(si);
+    let sin_si = s.sin;
     let a = -1.0 / sin_si;
-    let b = cos(si) / (sin_si * sin_si);
+    let b = s.cos / (sin_si * sin_si);
     let f = ti * a * v10dv2dt - si;
     let d2sdt2 = a * (b * v10dv2dt * v10dv2dt + v10d2v2dt2);
     let df = ti * d2sdt2;
@@ -241,9 +260,10 @@ pub fn int_min_nr_rec(k: Chase, ti: f64, i: u32) -> Walk
 pub fn int_spd_step(k: Chase, w1: f64, ti: f64) -> Step
     ensures { λ r. ⌜ r ≡ spec.intSpdStep k w1 ti ⌝ }
 {
-    let cosw2t = cos(k.w2 * ti);
-    let sinw2t = sin(k.w2 * ti);
-    let si = sep(k, ti);
+    let at = gone_at(k, ti);
+    let cosw2t = at.w2t.cos;
+    let sinw2t = at.w2t.sin;
+    let si = sep(k, at.pos);
     let f = si / ti - w1;
     let dsdt = (k.w2 * (k.v10v20 * sinw2t - k.v10c2 * cosw2t)) / sin(si);
     let df = (dsdt - (si / ti)) / ti;

@@ -3,8 +3,7 @@ ghost use mathlib.Core.Path.{_≡_};
 ghost use Rattle.jord.specs.Positions as spec;
 use crate::angle::Angle;
 use float::trig::atan2;
-use float::trig::cos;
-use float::trig::sin;
+use float::trig::sin_cos;
 use roots::sqrt;
 use vectors::vec3::Vec3;
 
@@ -146,11 +145,11 @@ fn latlong_to_nvector(latitude: Angle, longitude: Angle) -> Vec3
     if latitude.eq(Angle::NEG_QUARTER_CIRCLE) {
         return Vec3::NEG_UNIT_Z;
     }
-    let latitude_rads = latitude.radians;
-    let longitude_rads = longitude.radians;
-    let cl = cos(latitude_rads);
-    let x = cl * cos(longitude_rads);
-    let y = cl * sin(longitude_rads);
-    let z = sin(latitude_rads);
+    let lat = sin_cos(latitude.radians);
+    let lon = sin_cos(longitude.radians);
+    let cl = lat.cos;
+    let x = cl * lon.cos;
+    let y = cl * lon.sin;
+    let z = lat.sin;
     Vec3::new(x, y, z)
 }

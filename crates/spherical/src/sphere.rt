@@ -16,8 +16,7 @@ use chases::newton_raphson;
 use chases::outcome::of_hours;
 use chases::outcome::of_seconds;
 use float::trig::PI;
-use float::trig::cos;
-use float::trig::sin;
+use float::trig::sin_cos;
 use jord::angle::Angle;
 use jord::length::Length;
 use jord::positions::NVector;
@@ -295,5 +294,6 @@ fn heading(v: Vec3, bearing: Angle) -> Vec3
 fn towards(v: Vec3, w: Vec3, a: f64) -> Vec3
     ensures { λ r. ⌜ r ≡ spec.towards v w a ⌝ }
 {
-    v.mul(cos(a)).add(w.mul(sin(a)))
+    let p = sin_cos(a);
+    v.mul(p.cos).add(w.mul(p.sin))
 }

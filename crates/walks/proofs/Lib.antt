@@ -4,3 +4,4 @@ pub mod Still
 pub mod Far
 pub mod Separation
 pub mod AtRest
+pub mod OneAngle

@@ -4,5 +4,6 @@ pub mod Outcome
 pub mod Counts
 pub mod Before
 pub mod AtRest
+pub mod OneAngle
 pub mod Times
 pub mod Table

@@ -15,19 +15,16 @@ south-pole c = rw (sym (c .before .before .before .eq .ensures) ∙ c .before .b
 other : tie.Need-returns-3
 unfolding latlongToNvector
 other c =
-    let at-cos = c .before .before .before .before in
-    let k = c .before .before .before .before .before in
+    let at-sin-cos2 = c .before .before .before in
+    let k = at-sin-cos2 .before .before in
     let j = k .before .before in
     rw (
       sym (j .before .eq .ensures) ∙ j .if1 .left,
-      sym (k .before .eq2 .ensures)
-          ∙ k .if2 .left,
+      sym (k .before .eq2 .ensures) ∙ k .if2 .left,
       c .new .ensures,
-      c .before .sin2 .ensures,
-      c .before .before .sin .ensures,
-      c .before .before .before .cos2 .ensures,
-      at-cos .cos .ensures,
+      at-sin-cos2 .sin-cos2 .ensures,
+      at-sin-cos2 .before .sin-cos .ensures,
     )
 
 pub latlong-to-nvector-spec : {M : Type 1} → statement M
-latlong-to-nvector-spec = tie.close (tie.spec (λ c κs. tt) north-pole (λ c κs. tt) south-pole (λ c κs. tt) (λ c κs. tt) (λ c κs. tt) (λ c κs. tt) (λ c κs. tt) other)
+latlong-to-nvector-spec = tie.close (tie.spec (λ c κs. tt) north-pole (λ c κs. tt) south-pole (λ c κs. tt) (λ c κs. tt) (λ c κs. tt) other)
