@@ -26,8 +26,12 @@ pattern-is (fin t m e) s a v =
     ap (λ (z : ℕ). cond t (2 ^ 63) 0 + (size z - 53) * 2 ^ 52 + z / 2 ^ (size z - 53)) i
     ∙ ap (λ (z : Bool). cond z (2 ^ 63) 0 + (size a - 53) * 2 ^ 52 + a / 2 ^ (size a - 53)) (v .0)
 
+-- one pattern, one value: NaN too, of which the format holds one
+pub same-bits : (x y : Float) → T (fits binary64 x) → T (fits binary64 y) → toBits binary64 x ≡ toBits binary64 y → x ≡ y
+same-bits x y f g h = sym (ofBits-toBits binary64 x f) ∙ ap (ofBits binary64) h ∙ ofBits-toBits binary64 y g
+
 pub same-value : (x y : Float) (s : Bool) (a : ℕ) → T (fits binary64 x) → T (fits binary64 y) → HasValue x s a (2 ^ 1074) → HasValue y s a (2 ^ 1074) → x ≡ y
-same-value x y s a f g v w = sym (ofBits-toBits binary64 x f) ∙ ap (ofBits binary64) (pattern-is x s a v ∙ sym (pattern-is y s a w)) ∙ ofBits-toBits binary64 y g
+same-value x y s a f g v w = same-bits x y f g (pattern-is x s a v ∙ sym (pattern-is y s a w))
 
 -- ---- the parts of a finite value
 finite-magnitude : (x : Float) → T (finite x) → T (finite (magnitude x))

@@ -5,8 +5,7 @@ use Rattle.chases.proofs.sines_at.Tie as tie
 
 returns : tie.Need-returns
 unfolding sinesAt
-returns c =
-    rw (c .cos2 .ensures, c .before .cos .ensures, c .before .before .sin2 .ensures, c .before .before .before .sin .ensures)
+returns c = rw (c .sin-cos2 .ensures, c .before .before .sin-cos .ensures)
 
 pub sines-at-spec : {M : Type 1} → statement M
-sines-at-spec = tie.close (tie.spec (λ c κs. tt) (λ c κs. tt) (λ c κs. tt) (λ c κs. tt) returns)
+sines-at-spec = tie.close (tie.spec (λ c κs. tt) (λ c κs. tt) returns)
