@@ -65,6 +65,7 @@ pub const FUNCTIONS: &[Linked] = &[
     row!(0x0c from_seconds(t) SECONDS: ours, reference),
     row!(0x0d from_hours(h) HOURS: ours, reference),
     row!(0x0e to_seconds(nanoseconds) NANOSECONDS: ours, reference),
+    row!(0x8e sin_cos(x) ANGLES: ours, reference),
 ];
 
 /// References against a second opinion on document 01's words.
@@ -74,9 +75,10 @@ pub const CHECKS: &[Linked] = &[
     row!(0x0c from_seconds(t) SECONDS: reference, second),
     row!(0x0d from_hours(h) HOURS: reference, second),
     row!(0x0e to_seconds(nanoseconds) NANOSECONDS: reference, second),
+    row!(0x8e sin_cos(x) ANGLES: reference, second),
 ];
 
-/// The functions 01 to 0e.
+/// The functions 01 to 0e, and 8e.
 pub fn floats() -> impl Iterator<Item = &'static Function> {
     FUNCTIONS.iter().map(|linked| &linked.function)
 }

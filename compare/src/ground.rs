@@ -29,6 +29,16 @@ pub fn cos(x: f64) -> f64 {
     [c, -s, -c, s, c][quarter]
 }
 
+/// Sine and cosine of radians, from one reduction.
+pub fn sin_cos(x: f64) -> [f64; 2] {
+    if !x.is_finite() {
+        return [f64::NAN; 2];
+    }
+    let (quarter, s, c) = reduced(x);
+    let [sine, cosine] = [[s, c], [c, -s], [-s, -c], [-c, s], [s, c]][quarter];
+    [if x.is_sign_negative() { -sine } else { sine }, cosine]
+}
+
 /// The angle from the x axis to the point (x, y).
 pub fn atan2(y: f64, x: f64) -> f64 {
     if y.is_nan() || x.is_nan() {

@@ -31,12 +31,24 @@ exports! {
     "plot_rem": rem(x: f64, y: f64) -> f64;
     "plot_sin": sin(x: f64) -> f64;
     "plot_cos": cos(x: f64) -> f64;
+    "plot_sin_cos": store_sin_cos(x: f64, sin: &mut f64, cos: &mut f64) -> ();
     "plot_atan2": atan2(y: f64, x: f64) -> f64;
     "plot_to_radians": to_radians(x: f64) -> f64;
     "plot_to_degrees": to_degrees(x: f64) -> f64;
     "plot_from_seconds": store_seconds(t: f64, nanoseconds: &mut u64) -> u8;
     "plot_from_hours": store_hours(h: f64, nanoseconds: &mut u64) -> u8;
     "plot_to_seconds": to_seconds(nanoseconds: u64) -> f64;
+}
+
+pub fn sin_cos(x: f64) -> [f64; 2] {
+    let [mut sin, mut cos] = [0.0; 2];
+    store_sin_cos(x, &mut sin, &mut cos);
+    [sin, cos]
+}
+
+/// Two calls, for `time`.
+pub fn sin_and_cos(x: f64) -> [f64; 2] {
+    [sin(x), cos(x)]
 }
 
 pub fn from_seconds(t: f64) -> Outcome {

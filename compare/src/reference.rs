@@ -52,6 +52,16 @@ pub fn cos(x: f64) -> f64 {
 }
 
 #[inline(never)]
+pub fn sin_cos(x: f64) -> [f64; 2] {
+    ground::sin_cos(x)
+}
+
+/// Two calls, for `time`.
+pub fn sin_and_cos(x: f64) -> [f64; 2] {
+    [sin(x), cos(x)]
+}
+
+#[inline(never)]
 pub fn atan2(y: f64, x: f64) -> f64 {
     ground::atan2(y, x)
 }

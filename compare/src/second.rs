@@ -1,7 +1,9 @@
 //! The references held to a second opinion: whole numbers for the roundings
-//! of durations, the standard library for what the references write out.
+//! of durations, the standard library for what the references write out,
+//! sine and cosine by themselves for both together.
 
 use crate::answer::Outcome;
+use crate::ground;
 use crate::reference::{TOO_MANY_NANOSECONDS, TOO_MANY_SECONDS, asked};
 use std::time::Duration;
 
@@ -23,6 +25,11 @@ pub fn from_hours(h: f64) -> Outcome {
         let (significand, exponent) = parts(product);
         nearest(significand, exponent, |_| true)
     })
+}
+
+/// Each by itself.
+pub fn sin_cos(x: f64) -> [f64; 2] {
+    [ground::sin(x), ground::cos(x)]
 }
 
 pub fn to_seconds(nanoseconds: u64) -> f64 {

@@ -30,8 +30,8 @@ struct Whole {
 /// Whether nothing differs on so many percent of what each command meets by itself.
 pub fn run(percent: u64) -> Result<bool, String> {
     println!("seed {SEED:016x}, {percent} percent of the usual inputs");
-    println!("ratio: the time here over the Rust's; 01 to 0e: of the calls alone; all others: of");
-    println!("two programs from a file into a file, text and their start included");
+    println!("ratio: the time here over the Rust's; 01 to 0e, 8e: of the calls alone; all others:");
+    println!("of two programs from a file into a file, text and their start included");
     println!("{:<4}{:<38}{:>12}{:>13}{:>8}", "", "function", "inputs", "differences", "ratio");
     let mut all = Whole { percent, functions: 0, inputs: 0, differences: 0, well: true };
     functions::FUNCTIONS.iter().for_each(|linked| all.linked(linked));

@@ -62,6 +62,16 @@ pub extern "C" fn plot_cos(x: f64) -> f64
     float::trig::cos(x)
 }
 
+// Both of one angle, each stored in a number that is lent for it.
+#[no_mangle]
+pub extern "C" fn plot_sin_cos(x: f64, sin: &mut f64, cos: &mut f64)
+    ensures { λ _. ⌜ (now (sin .exit) ≡ trig.sin x) × (now (cos .exit) ≡ trig.cos x) ⌝ }
+{
+    let a = float::trig::sin_cos(x);
+    *sin = a.sin;
+    *cos = a.cos;
+}
+
 #[no_mangle]
 pub extern "C" fn plot_atan2(y: f64, x: f64) -> f64
     ensures { λ r. ⌜ r ≡ trig.atan2 y x ⌝ }

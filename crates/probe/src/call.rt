@@ -1,4 +1,5 @@
 // A line as a call: two digits of the function's number, then a space and 16 digits for each argument.
+use probe_fields::SIN_COS;
 use probe_fields::fields;
 use probe_fields::fields::ARGUMENTS;
 use probe_ways::LENT;
@@ -10,7 +11,7 @@ pub const MOST_LINE_BYTES: usize = 2 + 17 * ARGUMENTS;
 // How many arguments the function of a number takes.
 fn arity(f: u64) -> usize {
     match f {
-        0x01..=0x13 => probe_fields::arity(f),
+        0x01..=0x13 | SIN_COS => probe_fields::arity(f),
         0x14..=0x56 | 0x66 => probe_jord::arity(f),
         0x60..=0x65 => probe_sphere::arity(f),
         0x70..=0x78 | 0x7a => probe_sphere::arity(f),
@@ -29,7 +30,7 @@ fn takes(f: u64, n: usize) -> bool {
 // The result fields, over the page from at on, and the place past them.
 fn dispatch(f: u64, args: &[u64], n: usize, page: &mut [u8], at: usize) -> usize {
     match f {
-        0x01..=0x13 => probe_fields::answer(f, args, page, at),
+        0x01..=0x13 | SIN_COS => probe_fields::answer(f, args, page, at),
         0x14..=0x56 | 0x66 => probe_jord::answer(f, args, page, at),
         0x60..=0x65 => probe_sphere::answer(f, args, page, at),
         0x70..=0x78 | 0x7a => probe_sphere::answer(f, args, page, at),

@@ -1,6 +1,7 @@
 // The fields of a line: arguments read from their bits, and results written over a page. Where the page has no room, nothing is written.
 use arcs::Side;
 use duration::Converted;
+use float::trig::SinCos;
 use jord::angle::Angle;
 use jord::positions::NVector;
 use jord::speed::Speed;
@@ -139,6 +140,12 @@ pub fn put_vec3(page: &mut [u8], at: usize, v: Vec3) -> usize {
 fn put_float_after(page: &mut [u8], at: usize, x: f64) -> usize {
     let next = put_gap(page, at);
     put_float(page, next, x)
+}
+
+// A sine, then the cosine of the same angle.
+pub fn put_sin_cos(page: &mut [u8], at: usize, a: SinCos) -> usize {
+    let sine = put_float(page, at, a.sin);
+    put_float_after(page, sine, a.cos)
 }
 
 // The three rows of a matrix.

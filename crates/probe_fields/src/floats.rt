@@ -1,7 +1,9 @@
-// Functions 01 to 0b: the floats.
+// Functions 01 to 0b, and 8e, both of sine and cosine: the floats.
+use crate::SIN_COS;
 use crate::fields::float_at;
 use crate::fields::put_bool;
 use crate::fields::put_float;
+use crate::fields::put_sin_cos;
 use crate::fields::put_whole;
 use crate::fields::whole_at;
 
@@ -20,6 +22,7 @@ pub(crate) fn answer(f: u64, args: &[u64], page: &mut [u8], at: usize) -> usize 
         0x01 => put_bool(page, at, patterns::sign_bit(x)),
         0x03 => put_whole(page, at, patterns::to_bits(x)),
         0x04 => put_float(page, at, patterns::from_bits(whole_at(args, 0))),
+        SIN_COS => put_sin_cos(page, at, float::trig::sin_cos(x)),
         _ => put_float(page, at, value(f, x, float_at(args, 1))),
     }
 }
