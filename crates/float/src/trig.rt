@@ -64,7 +64,12 @@ fn reduced(x: f64) -> f64
     if x != x {
         return x;
     }
-    rem(magnitude(x), 2.0 * PI)
+    let a = magnitude(x);
+    // Most angles are within a turn: magnitudes are in the order of their patterns.
+    if f64::to_bits(a) < f64::to_bits(2.0 * PI) {
+        return a;
+    }
+    rem(a, 2.0 * PI)
 }
 
 // j: the quarter turns nearest to r.

@@ -74,7 +74,7 @@ magnitude-of x f =
     low : (b : ℕ) → b % 2 ^ 63 % 2 ^ 52 ≡ b % 2 ^ 52
     low b = omega arith
 
-magnitude-no-nan : (x : Float) → T (not (isNan x)) → T (not (isNan (magnitude x)))
+pub magnitude-no-nan : (x : Float) → T (not (isNan x)) → T (not (isNan (magnitude x)))
 unfolding isNan
 magnitude-no-nan nan n = n
 magnitude-no-nan (inf s) n = tt
