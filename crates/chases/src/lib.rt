@@ -7,6 +7,7 @@ use arcs::base::angle_radians_between;
 use float::trig::SinCos;
 use float::trig::sin;
 use float::trig::sin_cos;
+use float::trig::sin_cos_into;
 use jord::length::Length;
 use jord::positions::NVector;
 use jord::vehicle::Vehicle;
@@ -182,7 +183,10 @@ struct Gone {
 fn gone_at(k: Chase, t: f64) -> Gone
     ensures { λ r. ⌜ r ≡ shared.goneAt k t ⌝ }
 {
-    let w2t = sin_cos(k.w2 * t);
+    let mut sin = 0.0;
+    let mut cos = 0.0;
+    sin_cos_into(k.w2 * t, &mut sin, &mut cos);
+    let w2t = SinCos { sin, cos };
     let w = k.s2 / k.radius;
     if to_bits(w) == to_bits(k.w2) {
         return Gone { w2t, pos: w2t };

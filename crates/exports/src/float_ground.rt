@@ -67,9 +67,7 @@ pub extern "C" fn plot_cos(x: f64) -> f64
 pub extern "C" fn plot_sin_cos(x: f64, sin: &mut f64, cos: &mut f64)
     ensures { λ _. ⌜ (now (sin .exit) ≡ trig.sin x) × (now (cos .exit) ≡ trig.cos x) ⌝ }
 {
-    let a = float::trig::sin_cos(x);
-    *sin = a.sin;
-    *cos = a.cos;
+    float::trig::sin_cos_into(x, sin, cos)
 }
 
 #[no_mangle]

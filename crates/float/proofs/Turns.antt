@@ -1,8 +1,8 @@
 -- The last arm of the choice by j, and what a NaN is reduced to. Assumes nothing.
 use mathlib.Core.Path.{_≡_, refl}
 use Prim.Native.Nat.{ℕ, zero, suc}
-use lib.Ieee.{Float, nan, rem, ofBits}
-use Rattle.float.specs.Trig.{sin, cos, sinCos, reduced, sineAt, cosineAt, sineSeries, cosineSeries}
+use lib.Ieee.{Float, nan, rem}
+use Rattle.float.specs.Trig.{reduced, sineAt, cosineAt, sineSeries, cosineSeries}
 
 pub sine-past : (j : ℕ) (y : Float) → (j ≡ 0 → ⊥) → (j ≡ 1 → ⊥) → (j ≡ 2 → ⊥) → (j ≡ 3 → ⊥) → sineAt j y ≡ sineSeries y
 sine-past zero y a b c d = refl
@@ -22,7 +22,3 @@ cosine-past (suc (suc (suc (suc j)))) y a b c d = refl
 pub reduced-nan : reduced nan ≡ nan
 unfolding reduced rem
 reduced-nan = refl
-
-pub sin-cos-nan : sinCos nan ≡ record { sin = nan; cos = nan }
-unfolding sin cos ofBits
-sin-cos-nan = refl

@@ -26,6 +26,10 @@ pub cosine-of-infinity : cos (inf true) ≡ nan
 unfolding cos ofBits
 cosine-of-infinity = refl
 
+pub cosine-of-nan : cos nan ≡ nan
+unfolding cos ofBits
+cosine-of-nan = refl
+
 pub sine-of-minus-zero : sin (zeroOf true) ≡ zeroOf true
 unfolding sin ofBits
 sine-of-minus-zero = refl

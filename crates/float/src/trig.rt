@@ -153,16 +153,26 @@ fn both_at(j: u8, y: f64) -> SinCos
 pub fn sin_cos(x: f64) -> SinCos
     ensures { λ r. ⌜ r ≡ spec.sinCos x ⌝ }
 {
+    let mut sin = 0.0;
+    let mut cos = 0.0;
+    sin_cos_into(x, &mut sin, &mut cos);
+    SinCos { sin, cos }
+}
+
+// The same, each stored in a number that is lent: two words are read back sooner than a struct of two, and a walk waits for them at each step.
+pub fn sin_cos_into(x: f64, sin: &mut f64, cos: &mut f64)
+    ensures { λ _. ⌜ (now (sin .exit) ≡ spec.sin x) × (now (cos .exit) ≡ spec.cos x) ⌝ }
+{
     // A NaN leaves first, so that no test for one lengthens the way of the others.
     if x != x {
-        return SinCos { sin: x, cos: x };
+        *sin = x;
+        *cos = x;
+        return;
     }
     let a = reduce(x);
     let both = both_at(a.j, a.y);
-    SinCos {
-        sin: negated_if(sign_bit(x), both.sin),
-        cos: both.cos,
-    }
+    *sin = negated_if(sign_bit(x), both.sin);
+    *cos = both.cos;
 }
 
 // The sine; a NaN for a NaN or an infinity.
