@@ -10,15 +10,21 @@ use Rattle.chases.proofs.gone_at.Tie as tie
 
 once : tie.Need-returns
 once c =
-    let at-sin-cos = c .before .before .before .before in
-    let k = at-sin-cos .before .before .args .k in
+    let at-w2t = c .before .before .before .before in
+    let k = at-w2t .before .before .before .before .args .k in
     -- every field of `k` is a value of the format, w2 the sixth
     let held : T (fits binary64 (k .w2)) = c .before .before .before .struct-known2 .given .1 .1 .1 .1 .1 .0 in
     let bits = sym (c .before .before .to-bits .ensures) ∙ c .if1 .taken ∙ c .before .to-bits2 .ensures in
-    rw (at-sin-cos .sin-cos .ensures, same-bits (k .s2 ⊘ k .radius) (k .w2) (div-fits binary64 (k .s2) (k .radius)) held bits)
+    rw (
+      at-w2t .sin-cos-into .ensures .0,
+      at-w2t .sin-cos-into .ensures .1,
+      same-bits (k .s2 ⊘ k .radius) (k .w2) (div-fits binary64 (k .s2) (k .radius)) held bits,
+    )
 
 twice : tie.Need-returns-2
-twice c = rw (c .sin-cos2 .ensures, c .before .before .before .before .before .sin-cos .ensures)
+twice c =
+    let at-w2t = c .before .before .before .before .before in
+    rw (c .sin-cos .ensures, at-w2t .sin-cos-into .ensures .0, at-w2t .sin-cos-into .ensures .1)
 
 pub gone-at-spec : {M : Type 1} → statement M
 gone-at-spec = tie.close (tie.spec (λ c κs. tt) (λ c κs. tt) (λ c κs. tt) once (λ c κs. tt) twice)
