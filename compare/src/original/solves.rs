@@ -1,7 +1,7 @@
 //! Times many solves: `probe` and a Rust program that reads and writes the same lines.
 
 use super::beside::{Timed, lesser, milliseconds};
-use super::{answering, walks};
+use super::{answering, playing, speeds, walks};
 use crate::inputs::random::{Random, SEED};
 use crate::inputs::scenes::{self, Layout, Scene};
 use crate::{lines, stream};
@@ -47,24 +47,28 @@ pub fn run() -> io::Result<bool> {
     for (place, (_, calls)) in CASES.iter().enumerate() {
         timed.push(Timed::new(&format!("lines-{place}"), text(&chases, calls).as_bytes())?);
     }
+    let mut framed = Timed::new("frames-of-lines", &speeds::solves(&chases))?;
     let mut alone = [f64::INFINITY; 2];
     for _ in 0..ROUNDS {
         timed.iter_mut().try_for_each(|case| case.round(&stream::program(), "answer"))?;
+        framed.round(&playing::program(), "plot")?;
         alone = lesser(alone, [run_all(&inputs, plain), run_all(&inputs, answering::solved)]);
     }
-    print(&timed, alone);
-    let equal = timed.iter().all(|case| case.differences == 0);
+    print(&timed, &framed, alone);
+    let equal = timed.iter().chain([&framed]).all(|case| case.differences == 0);
     println!("\nanswers {}", if equal { "equal" } else { "differ" });
     Ok(equal)
 }
 
-fn print(timed: &[Timed], [plain, watched]: [f64; 2]) {
+fn print(timed: &[Timed], framed: &Timed, [plain, watched]: [f64; 2]) {
     println!("seed {SEED:016x}, {SOLVES} chases, best of {ROUNDS} rounds\n");
     println!("| lines | here, ms | Rust, ms | ratio |\n|---|---:|---:|---:|");
-    for ((name, _), case) in CASES.iter().zip(timed) {
+    let row = |name: &str, case: &Timed| {
         let ([here, rust], ratio) = (case.best, case.ratio());
         println!("| {name} | {here:.1} | {rust:.1} | {ratio:.2} |");
-    }
+    };
+    CASES.iter().zip(timed).for_each(|((name, _), case)| row(name, case));
+    row("the solves through `plot`: own ship, track, report, solve of each", framed);
     println!("\n| solves in Rust, computation alone | ms |\n|---|---:|");
     println!("| the original | {plain:.1} |\n| its watched copy | {watched:.1} |");
 }

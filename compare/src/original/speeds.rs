@@ -54,16 +54,37 @@ impl Fleet {
     }
 
     fn begin(&self, text: &mut Vec<u8>) {
-        let Scene { own, track, .. } = &self.0[0];
-        let mut ends: Ends = [0; 6];
-        ends.iter_mut().zip(track.as_flattened()).for_each(|(word, x)| *word = x.to_bits());
-        let mut frames =
-            vec![Frame::fresh(EARTH.to_bits()), Frame::own_ship(state(own)), Frame::track(ends)];
-        frames.extend((0..HELD).map(|place| Frame::report(identity(place), self.report(place))));
-        for frame in frames {
-            frame.write(text);
-            text.push(b'\n');
-        }
+        write(text, &[Frame::fresh(EARTH.to_bits())]);
+        write(text, &setting(&self.0[0]));
+        (0..HELD).for_each(|place| {
+            write(text, &[Frame::report(identity(place), self.report(place))]);
+        });
+    }
+}
+
+/// The frames that solve each scene: a fresh board, and for each own ship, track, report and solve.
+pub fn solves(scenes: &[Scene]) -> Vec<u8> {
+    let mut text = Vec::new();
+    write(&mut text, &[Frame::fresh(EARTH.to_bits())]);
+    for scene in scenes {
+        write(&mut text, &setting(scene));
+        let target = identity(0);
+        write(&mut text, &[Frame::report(target, state(&scene.target)), Frame::solve(target)]);
+    }
+    text
+}
+
+/// Own ship and track of a scene.
+fn setting(Scene { own, track, .. }: &Scene) -> [Frame; 2] {
+    let mut ends: Ends = [0; 6];
+    ends.iter_mut().zip(track.as_flattened()).for_each(|(word, x)| *word = x.to_bits());
+    [Frame::own_ship(state(own)), Frame::track(ends)]
+}
+
+fn write(text: &mut Vec<u8>, frames: &[Frame]) {
+    for frame in frames {
+        frame.write(text);
+        text.push(b'\n');
     }
 }
 
