@@ -62,7 +62,7 @@ pub extern "C" fn plot_cos(x: f64) -> f64
     float::trig::cos(x)
 }
 
-// Both of one angle, each stored in a number that is lent for it.
+// Both of one angle, each stored in a number that is lent for it: two numbers, for no number is lent twice at once.
 #[no_mangle]
 pub extern "C" fn plot_sin_cos(x: f64, sin: &mut f64, cos: &mut f64)
     ensures { λ _. ⌜ (now (sin .exit) ≡ trig.sin x) × (now (cos .exit) ≡ trig.cos x) ⌝ }
