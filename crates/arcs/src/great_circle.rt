@@ -9,7 +9,7 @@ use jord::positions::NVector;
 use vectors::vec3::Vec3;
 
 // A great circle by the vector normal to its plane.
-#[derive(Drop)]
+#[derive(Clone, Copy)]
 pub struct GreatCircle {
     pub normal: Vec3,
 }

@@ -1,4 +1,6 @@
 // Angles between vectors, great circles, arcs of them, and the side of one on which a point lies: the source's base.rs, great_circle.rs and minor_arc.rs.
+#![tactic(auto)]
+
 ghost use Rattle.std.specs.Prelude.{◌≡◌};
 ghost use Rattle.arcs.specs.Side.{side_number};
 
@@ -7,7 +9,7 @@ pub mod great_circle;
 pub mod minor_arc;
 
 // Where a point lies with respect to a great circle.
-#[derive(Drop)]
+#[derive(Clone, Copy)]
 pub enum Side {
     Left,
     Right,

@@ -6,7 +6,7 @@ use jord::positions::NVector;
 use vectors::vec3::Vec3;
 
 // The shortest path from one position to another on their great circle.
-#[derive(Drop)]
+#[derive(Clone, Copy)]
 pub struct MinorArc {
     pub start: NVector,
     pub end: NVector,

@@ -12,7 +12,7 @@ use questions::{ask, ask_ends, ask_fix, identity_asked};
 use targets::{Spot, seek};
 
 // All of a board but the entries of its targets.
-#[derive(Drop)]
+#[derive(Clone, Copy)]
 pub struct Setting {
     pub radius: f64,
     pub own: Own,
@@ -22,7 +22,7 @@ pub struct Setting {
 }
 
 // What a glance tells of a call.
-#[derive(Drop)]
+#[derive(Clone, Copy)]
 pub enum Hint {
     // The call has this answer, and the board stays as it was.
     Stays(Answer),

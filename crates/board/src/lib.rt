@@ -1,3 +1,5 @@
 // The calls of a board.
+#![tactic(auto)]
+
 pub mod board;
 pub mod glance;

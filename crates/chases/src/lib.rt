@@ -1,4 +1,6 @@
 // The walks: Newton's method towards the closest approach, over hours, and towards an intercept, over seconds.
+#![tactic(auto)]
+
 ghost use Rattle.std.specs.Prelude.{◌≡◌};
 ghost use Rattle.chases.specs.Gone as shared;
 ghost use Rattle.walks.specs.Walk as spec;
@@ -166,7 +168,7 @@ pub fn chase_start(k: Chase) -> f64
 }
 
 // The sine and cosine of the angle that an intruder has gone through: `w2 * t`, and as `pos` has it, `s2 / radius * t`.
-#[derive(Drop)]
+#[derive(Clone, Copy)]
 struct Gone {
     w2t: SinCos,
     pos: SinCos,

@@ -1,9 +1,11 @@
 // What the programs share: how one goes on after a read, and what it says on standard error.
+#![tactic(auto)]
+
 ghost use Rattle.std.specs.Prelude.{◌≡◌, ltb};
 ghost use Rattle.console.specs.Way.{way_of, is_fault};
 
 // How a program goes on, or why it ends.
-#[derive(Drop)]
+#[derive(Clone, Copy)]
 pub enum Way {
     On,
     Ended,

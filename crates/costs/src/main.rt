@@ -1,4 +1,6 @@
 // Makes one call of a board many times, the board by value, and prints a digest of what came of it. Time is taken from outside.
+#![tactic(auto)]
+
 mod inputs;
 mod turns;
 
@@ -13,8 +15,8 @@ const LINE: usize = 11;
 fn answer(text: &[u8]) {
     let mut at = 0;
     while text.len() - at >= LINE {
-        let call = hex::number_at(text, at, CALL);
-        let count = hex::number_at(text, at + CALL, COUNT);
+        let call = hex_digits::number_at(text, at, CALL);
+        let count = hex_digits::number_at(text, at + CALL, COUNT);
         let run = turns::turns(turns::full(), call, count);
         io::print_hex(1, turns::digest(run), 16);
         io::write_all(1, b"\n");

@@ -19,7 +19,7 @@ const SOLVE: u64 = 6;
 const ASKING: u64 = 7;
 
 // A board after some turns, and the sum of what the turns answered.
-#[derive(Drop)]
+#[derive(Clone, Copy)]
 pub struct Run {
     pub board: Board,
     pub seen: u64,

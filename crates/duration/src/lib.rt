@@ -1,4 +1,6 @@
 // Durations are 64-bit nanoseconds.
+#![tactic(auto)]
+
 ghost use Rattle.std.specs.Prelude.{◌≡◌, ◌+◌, ◌*◌, ◌^◌, ◌≤◌, ◌<◌};
 ghost use Rattle.std.specs.Float.Ieee.Nearest.{closest};
 ghost use Rattle.duration.specs.Duration as spec;
@@ -22,7 +24,7 @@ const LIMIT_NANOSECONDS: f64 = LIMIT * (SECOND as f64);
 const UNITS: u64 = 1074;
 
 // A time as a duration, or why it is none.
-#[derive(Drop)]
+#[derive(Clone, Copy)]
 pub enum Converted {
     Nanoseconds(u64),
     // Not zero or more, as a NaN is not.

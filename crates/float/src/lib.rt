@@ -1,5 +1,7 @@
 // The float ground: everything above reaches floats through these functions and the language's own operators.
 // Sines, arcs and degrees stand here, the rest in crates of its own.
+#![tactic(auto)]
+
 pub mod degrees;
 pub mod trig;
 

@@ -12,14 +12,14 @@ pub const PI: f64 = 3.141592653589793;
 const ARC_BOUND: f64 = 0.4140625;
 
 // The sine and the cosine of one angle.
-#[derive(Drop)]
+#[derive(Clone, Copy)]
 pub struct SinCos {
     pub sin: f64,
     pub cos: f64,
 }
 
 // What is left of an angle's magnitude: j quarter turns and y radians.
-#[derive(Drop)]
+#[derive(Clone, Copy)]
 struct Reduction {
     j: u8,
     y: f64,

@@ -10,8 +10,8 @@ use borrow.Author.Tests.{ltb-true, lt-ltb, le-ltb}
 use lib.Dec.{eqb, ltb}
 use lib.ListN.{length, take, drop, get_or, length-drop, length-append, length-take, drop_of_length-le}
 use lib.Seq.{take_all, take-nil, take-add, drop-cons, drop-drop, length-take-le}
-use Rattle.hex.specs.Write.{over, Wrote}
-use Rattle.hex.proofs.Write.{wrote_nothing, then, as-length}
+use Rattle.hex_digits.specs.Write.{over, Wrote}
+use Rattle.hex_digits.proofs.Write.{wrote_nothing, then, as-length}
 use Rattle.sessions.specs.declared.session.Session.{Session}
 use Rattle.frames.specs.declared.stream.Fed.{Fed}
 use Rattle.frames.specs.declared.stream.Stream.{Stream}

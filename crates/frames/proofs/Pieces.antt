@@ -17,7 +17,7 @@ use Rattle.wire.specs.Frame.{frame_of}
 use Rattle.sessions.specs.declared.session.Session.{Session}
 use Rattle.sessions.specs.Session.{next, plain_of}
 use Rattle.frames.specs.declared.stream.Stream.{Stream}
-use Rattle.hex.specs.Write.{over}
+use Rattle.hex_digits.specs.Write.{over}
 use Rattle.frames.specs.Whole.{newline, onto, lines_of, reply_line, replies_to}
 use Rattle.frames.specs.Line.{kept}
 use Rattle.frames.specs.Stream.{room, Model, fresh, added, stepped, answered, fed_state, fed_text, last_text, end_text, view, Written, last_in, Ran, AnswersAll}

@@ -15,8 +15,8 @@ use lib.Seq.{take_all, take-suc, take-add, drop-cons, drop-drop, length-take-le,
 use Rattle.plain.specs.Board.{Plain}
 use Rattle.board.specs.Glance.{setting_of, board_of}
 use Rattle.board.specs.declared.glance.Setting.{Setting}
-use Rattle.hex.specs.Write.{Put, Wrote}
-use Rattle.hex.proofs.Write.{then, as-length, put-wrote, wrote-byte, wrote_nothing}
+use Rattle.hex_digits.specs.Write.{Put, Wrote}
+use Rattle.hex_digits.proofs.Write.{then, as-length, put-wrote, wrote-byte, wrote_nothing}
 use Rattle.wire.specs.declared.frame.Frame.{Frame}
 use Rattle.wire.specs.declared.reply.Reply.{Reply}
 use Rattle.sessions.specs.declared.session.Session.{Session}

@@ -2,7 +2,7 @@
 use Rattle.std.specs.Prelude.{ℕ, suc, ◌+◌, ◌-◌, ◌≤◌, cond, ◌&&◌, List, [], ◌∷◌, ◌++◌, ◌≡◌, eqb, ltb, length, take, drop}
 use Rattle.std.proofs.Math.Option.{Option, none}
 use Rattle.plain.specs.Board.{Plain}
-use Rattle.hex.specs.Write.{Wrote}
+use Rattle.hex_digits.specs.Write.{Wrote}
 use Rattle.frames.specs.declared.stream.Fed.{Fed}
 use Rattle.frames.specs.declared.stream.Stream.{Stream}
 use Rattle.wire.specs.Frame.{frame_of}

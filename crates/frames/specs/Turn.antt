@@ -1,6 +1,6 @@
 -- What the functions under `feed` and `finish` hand to one another. Definitions only.
 use Rattle.std.specs.Prelude.{ℕ, ◌+◌, ◌-◌, ◌≤◌, Bool, true, cond, List, [], ◌∷◌, ◌++◌, ◌≢◌, ◌≡◌, ltb, length, take, drop}
-use Rattle.hex.specs.Write.{Wrote}
+use Rattle.hex_digits.specs.Write.{Wrote}
 use Rattle.wire.specs.declared.frame.Frame.{Frame}
 use Rattle.wire.specs.declared.reply.Reply.{Reply}
 use Rattle.wire.specs.Reply.{reply_digits}

@@ -14,7 +14,7 @@ pub const NEWLINE: u8 = 10;
 const BLOCK: usize = 16;
 
 // The end of a line, and whether its bytes are digits alone.
-#[derive(Drop)]
+#[derive(Clone, Copy)]
 pub struct LineSpan {
     pub end: usize,
     pub digits: bool,
@@ -95,7 +95,7 @@ pub(crate) fn line_at(s: &[u8], at: usize) -> LineSpan
     let n = likely_length(s, at);
     if n < s.len() - at {
         if s[at + n] == NEWLINE {
-            if hex::all_digits(&s[at..at + n]) {
+            if hex_digits::all_digits(&s[at..at + n]) {
                 return LineSpan {
                     end: at + n,
                     digits: true,
@@ -106,7 +106,7 @@ pub(crate) fn line_at(s: &[u8], at: usize) -> LineSpan
     let end = end_of_line(s, at);
     LineSpan {
         end,
-        digits: hex::all_digits(&s[at..end]),
+        digits: hex_digits::all_digits(&s[at..end]),
     }
 }
 

@@ -18,7 +18,7 @@ use wire::reply::{Reply, put};
 const ROOM: usize = wire::reply::MOST_REPLY_DIGITS + 1;
 
 // The session, and the first n bytes of a line that has begun.
-#[derive(Drop)]
+#[derive(Clone, Copy)]
 pub struct Stream {
     pub session: Session,
     pub line: [u8; KEPT],
@@ -26,7 +26,7 @@ pub struct Stream {
 }
 
 // A session in its parts beside the place past what was written.
-#[derive(Drop)]
+#[derive(Clone, Copy)]
 struct InParts {
     started: bool,
     setting: Setting,
@@ -35,7 +35,7 @@ struct InParts {
 }
 
 // The stream after a piece, how many bytes of it were used, and the place past what was written.
-#[derive(Drop)]
+#[derive(Clone, Copy)]
 pub struct Fed {
     pub stream: Stream,
     pub used: usize,

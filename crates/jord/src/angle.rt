@@ -9,7 +9,7 @@ use patterns::magnitude;
 use remainders::rem;
 
 // An angle.
-#[derive(Drop)]
+#[derive(Clone, Copy)]
 pub struct Angle {
     pub radians: f64,
 }

@@ -5,7 +5,7 @@ ghost use Rattle.jord.specs.Length as spec;
 use crate::angle::Angle;
 
 // A length.
-#[derive(Drop)]
+#[derive(Clone, Copy)]
 pub struct Length {
     pub metres: f64,
 }

@@ -1,4 +1,6 @@
 // Numbers, units, vectors, positions and vehicles: a module to a file of the source.
+#![tactic(auto)]
+
 pub mod angle;
 mod constants;
 pub mod length;

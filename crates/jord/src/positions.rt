@@ -8,7 +8,7 @@ use roots::sqrt;
 use vectors::vec3::Vec3;
 
 // A position by its latitude and longitude.
-#[derive(Drop)]
+#[derive(Clone, Copy)]
 pub struct LatLong {
     pub latitude: Angle,
     pub longitude: Angle,
@@ -65,7 +65,7 @@ impl LatLong {
 }
 
 // A position by the unit vector normal to the surface: z points to the north pole, x to latitude and longitude zero.
-#[derive(Drop)]
+#[derive(Clone, Copy)]
 pub struct NVector(Vec3);
 
 impl NVector {

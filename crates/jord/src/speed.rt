@@ -6,7 +6,7 @@ use crate::length::Length;
 use duration::to_seconds;
 
 // A speed.
-#[derive(Drop)]
+#[derive(Clone, Copy)]
 pub struct Speed {
     pub mps: f64,
 }

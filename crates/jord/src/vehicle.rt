@@ -7,7 +7,7 @@ use crate::positions::NVector;
 use crate::speed::Speed;
 
 // A vehicle: where it is, which way it heads and how fast.
-#[derive(Drop)]
+#[derive(Clone, Copy)]
 pub struct Vehicle {
     pub position: NVector,
     pub bearing: Angle,

@@ -10,7 +10,7 @@ use jord::positions::NVector;
 use vectors::vec3::Vec3;
 
 // Where n positions lie: the parts of the i-th at x + step * i, y + step * i, z + step * i; `cleared` reads -0.0 as +0.0, as `Vec3::new` does.
-#[derive(Drop)]
+#[derive(Clone, Copy)]
 pub(crate) struct Places {
     pub(crate) x: usize,
     pub(crate) y: usize,

@@ -1,4 +1,6 @@
 // Means of positions. A list is handed over as coordinates, three to a position; one or two left over at the end count for nothing.
+#![tactic(auto)]
+
 ghost use Rattle.std.specs.Prelude.{◌≡◌};
 ghost use Rattle.means.specs.Mean as spec;
 
@@ -10,7 +12,7 @@ pub mod columns;
 pub mod lent;
 
 // The mean position, or why there is none.
-#[derive(Drop)]
+#[derive(Clone, Copy)]
 pub enum Mean {
     Position(NVector),
     // There is no entry.

@@ -1,4 +1,6 @@
 // Sign bit, magnitude, bit pattern and parts of a float.
+#![tactic(auto)]
+
 ghost use Rattle.std.specs.Prelude.{◌≡◌, from_bits, to_bits};
 ghost use Rattle.std.specs.Float.{binary64};
 ghost use Rattle.patterns.specs.Bits as spec;
@@ -19,7 +21,7 @@ pub const NAN: u64 = 0x7ff8_0000_0000_0000;
 pub const FIELD: u64 = 0x10_0000_0000_0000;
 
 // A magnitude as a whole number of units of 2^-1074: digits * 2^place.
-#[derive(Drop)]
+#[derive(Clone, Copy)]
 pub struct Unpacked {
     pub digits: u64,
     pub place: u64,

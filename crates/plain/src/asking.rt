@@ -5,7 +5,7 @@ ghost use Rattle.plain.specs.Asking as spec;
 use crate::call::Refusal;
 
 // The target of the lowest identity among those whose found meeting time is least, or why there is none.
-#[derive(Drop)]
+#[derive(Clone, Copy)]
 pub enum Choice {
     Target(u16),
     Refused(Refusal),

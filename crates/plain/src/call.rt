@@ -6,7 +6,7 @@ use crate::line::Line;
 use crate::targets::Lined;
 
 // Three numbers handed over as a position.
-#[derive(Drop)]
+#[derive(Clone, Copy)]
 pub struct Coordinates {
     pub x: f64,
     pub y: f64,
@@ -14,7 +14,7 @@ pub struct Coordinates {
 }
 
 // The numbers handed over for a vehicle: a position, a bearing in radians, a speed in metres a second.
-#[derive(Drop)]
+#[derive(Clone, Copy)]
 pub struct Fix {
     pub position: Coordinates,
     pub bearing: f64,
@@ -22,7 +22,7 @@ pub struct Fix {
 }
 
 // A call that may change a board. Report, withdraw and solve name a target by its identity.
-#[derive(Drop)]
+#[derive(Clone, Copy)]
 pub enum Call {
     Report(u16, Fix),
     Withdraw(u16),
@@ -32,7 +32,7 @@ pub enum Call {
 }
 
 // Why a call is refused: the question that was answered by no.
-#[derive(Drop)]
+#[derive(Clone, Copy)]
 pub enum Refusal {
     // 2: the radius is not finite and above zero.
     RadiusNotPositive,
@@ -80,7 +80,7 @@ impl Refusal {
 }
 
 // What a board answers to a call.
-#[derive(Drop)]
+#[derive(Clone, Copy)]
 pub enum Answer {
     Done,
     Solved(Line),

@@ -5,14 +5,14 @@ use jord::vehicle::Vehicle;
 use walks::Outcome;
 
 // The ends of a track.
-#[derive(Drop)]
+#[derive(Clone, Copy)]
 pub struct Ends {
     pub start: NVector,
     pub end: NVector,
 }
 
 // What a solve sees: the own ship, the track and the target's report.
-#[derive(Drop)]
+#[derive(Clone, Copy)]
 pub struct Scene {
     pub own: Vehicle,
     pub track: Ends,
@@ -20,7 +20,7 @@ pub struct Scene {
 }
 
 // What a solve makes of a target: metres and radians from the own ship, the side of the track and the metres from it, and three walks.
-#[derive(Drop)]
+#[derive(Clone, Copy)]
 pub struct Line {
     pub distance: f64,
     pub bearing: f64,

@@ -5,21 +5,21 @@ use crate::targets::Targets;
 use jord::vehicle::Vehicle;
 
 // An own ship, or none.
-#[derive(Drop)]
+#[derive(Clone, Copy)]
 pub enum Own {
     Nobody,
     Ship(Vehicle),
 }
 
 // A track, or none.
-#[derive(Drop)]
+#[derive(Clone, Copy)]
 pub enum Tracked {
     Nowhere,
     Along(Ends),
 }
 
 // A board: the radius of the sphere in metres, the own ship, the track, the targets and the total of steps.
-#[derive(Drop)]
+#[derive(Clone, Copy)]
 pub struct Board {
     pub radius: f64,
     pub own: Own,
@@ -29,7 +29,7 @@ pub struct Board {
 }
 
 // A board beside what it answered.
-#[derive(Drop)]
+#[derive(Clone, Copy)]
 pub struct Answered {
     pub board: Board,
     pub answer: Answer,

@@ -6,35 +6,35 @@ use jord::vehicle::Vehicle;
 pub const MOST_TARGETS: usize = 64;
 
 // A line, or none.
-#[derive(Drop)]
+#[derive(Clone, Copy)]
 pub enum Lined {
     Bare,
     With(Line),
 }
 
 // What is held of a target: its last accepted report, and its line or none.
-#[derive(Drop)]
+#[derive(Clone, Copy)]
 pub struct Held {
     pub report: Vehicle,
     pub line: Lined,
 }
 
 // A target.
-#[derive(Drop)]
+#[derive(Clone, Copy)]
 pub struct Target {
     pub identity: u16,
     pub held: Held,
 }
 
 // The targets that stand: the first `count` entries, all of them where it says more.
-#[derive(Drop)]
+#[derive(Clone, Copy)]
 pub struct Targets {
     pub entries: [Target; MOST_TARGETS],
     pub count: usize,
 }
 
 // What is held under an identity.
-#[derive(Drop)]
+#[derive(Clone, Copy)]
 pub enum Found {
     Nothing,
     There(Held),

@@ -1,4 +1,6 @@
 // Reads frames on standard input and writes the reply to each on standard output, until the input ends or a read or a write fails.
+#![tactic(auto)]
+
 ghost use Rattle.std.specs.Prelude.{◌≤◌, length};
 ghost use Rattle.frames.specs.Stream.{room};
 ghost use Rattle.plot.specs.Turn.{Poured, Turning};
@@ -10,7 +12,7 @@ use frames::stream::Stream;
 const PIECE: usize = 262_144;
 
 // What a turn leaves: the stream, and how to go on.
-#[derive(Drop)]
+#[derive(Clone, Copy)]
 struct Turned {
     stream: Stream,
     way: Way,

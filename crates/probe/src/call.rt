@@ -41,7 +41,7 @@ fn stands(i: usize, b: u8) -> bool {
     if i % 17 == 2 {
         return b == b' ';
     }
-    hex::is_digit(b)
+    hex_digits::is_digit(b)
 }
 
 // Is each byte what its place asks for?
@@ -62,7 +62,7 @@ fn is_call(line: &[u8]) -> bool {
     if n % 17 != 2 {
         return false;
     }
-    if !takes(hex::number_at(line, 0, 2), n / 17) {
+    if !takes(hex_digits::number_at(line, 0, 2), n / 17) {
         return false;
     }
     is_laid_out(line)
@@ -73,7 +73,7 @@ fn arguments(line: &[u8]) -> [u64; ARGUMENTS] {
     let mut args = [0u64; ARGUMENTS];
     let mut k = 0;
     while k < ARGUMENTS {
-        args[k] = hex::number_at(line, 3 + 17 * k, 16);
+        args[k] = hex_digits::number_at(line, 3 + 17 * k, 16);
         k += 1;
     }
     args
@@ -91,5 +91,11 @@ fn answer_fields(line: &[u8], page: &mut [u8], at: usize) -> usize {
         return fields::put_refusal(page, at);
     }
     let args = arguments(line);
-    dispatch(hex::number_at(line, 0, 2), &args, line.len() / 17, page, at)
+    dispatch(
+        hex_digits::number_at(line, 0, 2),
+        &args,
+        line.len() / 17,
+        page,
+        at,
+    )
 }

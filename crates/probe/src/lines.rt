@@ -5,14 +5,14 @@ use crate::{call, page};
 const KEPT: usize = call::MOST_LINE_BYTES + 1;
 
 // The first n bytes of a line that has begun.
-#[derive(Drop)]
+#[derive(Clone, Copy)]
 pub struct Line {
     pub bytes: [u8; KEPT],
     pub n: usize,
 }
 
 // What a piece of the input leaves: the line that has begun, and whether to go on.
-#[derive(Drop)]
+#[derive(Clone, Copy)]
 pub struct Turned {
     pub line: Line,
     pub goes_on: bool,

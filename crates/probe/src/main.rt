@@ -1,4 +1,6 @@
 // Reads calls on standard input, one a line, and writes the answer to each on standard output, until the input ends or a write fails.
+#![tactic(auto)]
+
 mod call;
 mod lines;
 mod page;

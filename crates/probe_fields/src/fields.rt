@@ -92,7 +92,7 @@ pub fn put_byte(page: &mut [u8], at: usize, b: u8) -> usize {
 
 // A result of 64 bits, 16 digits.
 pub fn put_whole(page: &mut [u8], at: usize, value: u64) -> usize {
-    hex::put_number(page, at, value, 16)
+    hex_digits::put_number(page, at, value, 16)
 }
 
 // A float by its bits.
@@ -102,7 +102,7 @@ pub fn put_float(page: &mut [u8], at: usize, x: f64) -> usize {
 
 // A number below 256, two digits: a truth value or the number of an outcome.
 pub fn put_short(page: &mut [u8], at: usize, value: u64) -> usize {
-    hex::put_number(page, at, value, 2)
+    hex_digits::put_number(page, at, value, 2)
 }
 
 // 01 for true, 00 for false.

@@ -1,4 +1,6 @@
 // The fields of a call of the program probe, and the calls of the float ground, numbers and durations by their number.
+#![tactic(auto)]
+
 use crate::fields::put_refusal;
 
 mod durations;

@@ -1,4 +1,6 @@
 // Great circles and what a board's line holds, by the number of their function, as the program probe takes them.
+#![tactic(auto)]
+
 use probe_fields::UNKNOWN;
 use probe_fields::fields::put_refusal;
 

@@ -1,4 +1,6 @@
 // Means, and the ways and angles on the sphere that no board needs, by the number of their function, as the program probe takes them.
+#![tactic(auto)]
+
 use probe_fields::UNKNOWN;
 use probe_fields::fields::put_refusal;
 

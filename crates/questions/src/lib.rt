@@ -1,4 +1,6 @@
 // The questions of a board, each with the refusal that its no gives.
+#![tactic(auto)]
+
 ghost use Rattle.std.specs.Prelude.{◌≡◌};
 ghost use Rattle.plain.specs.Questions as spec;
 

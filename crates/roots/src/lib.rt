@@ -1,4 +1,6 @@
 // The square root of IEEE 754: the value nearest to the exact root.
+#![tactic(auto)]
+
 ghost use Rattle.std.specs.Prelude.{◌≡◌, ◌&&◌, not, ◌+◌, ◌-◌, ◌*◌, ◌/◌, ◌^◌, ◌≤◌, ◌<◌, leb};
 ghost use Rattle.roots.specs.Root as spec;
 

@@ -10,7 +10,7 @@ use wire::frame::Frame;
 use wire::reply::Reply;
 
 // What a quick look tells of a frame.
-#[derive(Drop)]
+#[derive(Clone, Copy)]
 pub enum Quick {
     // The reply, and the session stays as it was.
     Stays(Reply),

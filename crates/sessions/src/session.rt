@@ -13,14 +13,14 @@ use wire::frame::Frame;
 use wire::reply::Reply;
 
 // Whether a board has been started, and that board.
-#[derive(Drop)]
+#[derive(Clone, Copy)]
 pub struct Session {
     pub started: bool,
     pub board: Board,
 }
 
 // A session beside what it answered.
-#[derive(Drop)]
+#[derive(Clone, Copy)]
 pub struct Stepped {
     pub session: Session,
     pub reply: Reply,

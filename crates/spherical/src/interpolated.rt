@@ -5,7 +5,7 @@ ghost use Rattle.spherical.specs.Interpolated as spec;
 use jord::positions::NVector;
 
 // The position, or why there is none.
-#[derive(Drop)]
+#[derive(Clone, Copy)]
 pub enum Interpolated {
     Position(NVector),
     // The fraction is not within 0.0 to 1.0.

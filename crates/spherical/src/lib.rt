@@ -1,4 +1,6 @@
 // The source's spherical folder. Navigation on a sphere stands here; angles and arcs, means and walks in crates of their own.
+#![tactic(auto)]
+
 pub use arcs::Side;
 
 pub mod interpolated;

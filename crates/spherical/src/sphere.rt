@@ -23,7 +23,7 @@ use vectors::vec3::Vec3;
 use walks::Outcome;
 
 // A sphere.
-#[derive(Drop)]
+#[derive(Clone, Copy)]
 pub struct Sphere {
     pub radius: Length,
 }

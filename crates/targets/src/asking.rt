@@ -20,7 +20,7 @@ use walks::Outcome;
 const MOST_PARTS: usize = 3 * MOST_TARGETS;
 
 // The target with the least found meeting time, in nanoseconds, of those looked at so far, or none.
-#[derive(Drop)]
+#[derive(Clone, Copy)]
 enum Best {
     Missing,
     At { identity: u16, time: u64 },

@@ -1,4 +1,6 @@
 // The array of targets: the search of it, and each change of it.
+#![tactic(auto)]
+
 ghost use Rattle.std.specs.Prelude.{◌≡◌, ◌∷◌, ◌++◌, map, ◌+◌, ◌-◌, ◌≤◌, length, take, drop};
 ghost use Rattle.plain.specs.Targets.{most_targets, bare_target, at_most};
 ghost use Rattle.targets.specs.Slots as spec;
@@ -16,21 +18,21 @@ pub mod asking;
 const LAST: usize = MOST_TARGETS - 1;
 
 // Where an identity stands, or where it would.
-#[derive(Drop)]
+#[derive(Clone, Copy)]
 pub enum Spot {
     At(usize),
     Before(usize),
 }
 
 // What a search for an identity gives: its spot, and what is held under it.
-#[derive(Drop)]
+#[derive(Clone, Copy)]
 pub struct Sought {
     pub spot: Spot,
     pub found: Found,
 }
 
 // What a call does to the targets.
-#[derive(Drop)]
+#[derive(Clone, Copy)]
 pub enum Change {
     // The targets stay as they are.
     Stays,

@@ -1,4 +1,6 @@
 // Lowercase hexadecimal digits read out of lent bytes.
+#![tactic(auto)]
+
 ghost use Rattle.std.specs.Prelude.{◌≡◌, ◌+◌, ◌<◌, ◌≤◌, min, true, length, take, drop, get_or};
 ghost use Rattle.unhex.specs.Digits.{is_digit, all_digits, digit_of, hex_at, low_of, lows_at, lows_in, lows_of};
 

@@ -5,7 +5,7 @@ ghost use Rattle.vectors.specs.Mat33 as spec;
 use crate::vec3::Vec3;
 
 // A 3 by 3 matrix.
-#[derive(Drop)]
+#[derive(Clone, Copy)]
 pub struct Mat33 {
     pub r0: Vec3,
     pub r1: Vec3,

@@ -6,7 +6,7 @@ use patterns::magnitude;
 use roots::sqrt;
 
 // A vector.
-#[derive(Drop)]
+#[derive(Clone, Copy)]
 pub struct Vec3 {
     pub x: f64,
     pub y: f64,

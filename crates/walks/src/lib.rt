@@ -1,4 +1,6 @@
 // The walks, to be believed: their types here, their definitions in specs, what is proved of them in proofs. The code stands in chases.
+#![tactic(auto)]
+
 ghost use Rattle.std.specs.Prelude.{◌≡◌};
 ghost use Rattle.walks.specs.Outcome as spec;
 
@@ -8,7 +10,7 @@ use vectors::vec3::Vec3;
 pub const MOST_STEPS: u32 = 50;
 
 // What a step finds at its time.
-#[derive(Drop)]
+#[derive(Clone, Copy)]
 pub enum Step {
     // The walk ends with this time.
     Accepted(f64),
@@ -19,7 +21,7 @@ pub enum Step {
 }
 
 // What a walk comes to. A count is the steps begun.
-#[derive(Drop)]
+#[derive(Clone, Copy)]
 pub enum Walk {
     Accepted { time: f64, count: u32 },
     ZeroDerivative { count: u32 },
@@ -28,7 +30,7 @@ pub enum Walk {
 }
 
 // The coefficients of the rate at which the cosine of the angle between two vehicles changes. w1 and w2 are their angular speeds.
-#[derive(Drop)]
+#[derive(Clone, Copy)]
 pub struct Cpa {
     pub a: f64,
     pub b: f64,
@@ -39,7 +41,7 @@ pub struct Cpa {
 }
 
 // The sines and cosines of the angles that two vehicles have gone through.
-#[derive(Drop)]
+#[derive(Clone, Copy)]
 pub struct Sines {
     pub sw1t: f64,
     pub sw2t: f64,
@@ -48,7 +50,7 @@ pub struct Sines {
 }
 
 // The coefficients of an intercept: an interceptor at v10, and an intruder at v20 with the course c2, the speed s2 and the angular speed w2.
-#[derive(Drop)]
+#[derive(Clone, Copy)]
 pub struct Chase {
     pub v10: Vec3,
     pub v20: Vec3,
@@ -61,7 +63,7 @@ pub struct Chase {
 }
 
 // A duration, or why there is none. A count is the steps begun.
-#[derive(Drop)]
+#[derive(Clone, Copy)]
 pub enum Outcome {
     Found { nanoseconds: u64, count: u32 },
     // The derivative was zero: there is no correction to make.

@@ -4,9 +4,9 @@ use mathlib.Core.List.{List, ◌++◌}
 use mathlib.Core.Path.{◌≡◌, ap, ◌∙◌}
 use native.Mathlib.Omega.{arith}
 use lib.ListN.{length, length-append}
-use Rattle.hex.specs.Hex.{digits}
-use Rattle.hex.specs.Write.{Put, Wrote}
-use Rattle.hex.proofs.Write.{length_digits, number-wrote, then}
+use Rattle.hex_digits.specs.Hex.{digits}
+use Rattle.hex_digits.specs.Write.{Put, Wrote}
+use Rattle.hex_digits.proofs.Write.{length_digits, number-wrote, then}
 use Rattle.wire.specs.declared.reply.Reply.{Reply}
 use Rattle.wire.specs.declared.reply.Reply.TheVariants.{Done, Refused, Solved, Mean, Pick, Total, NotAFrame}
 use Rattle.wire.specs.Reply.{outcome_digits, line_digits, position_digits, reply_digits, most_reply_digits}

@@ -3,7 +3,7 @@ use Rattle.std.specs.Prelude.{ℕ, List, ◌++◌, Float}
 use Rattle.std.specs.Float.{binary64}
 use Rattle.std.specs.Float.Ieee.{to_bits}
 use Rattle.plain.specs.declared.line.Line.{Line}
-use Rattle.hex.specs.Hex.{digits}
+use Rattle.hex_digits.specs.Hex.{digits}
 use Rattle.vectors.specs.declared.vec3.Vec3.{Vec3}
 use Rattle.walks.specs.Outcome.{number_of, nanoseconds_of, count_of}
 use Rattle.arcs.specs.Side.{side_number}

@@ -4,7 +4,7 @@ use Rattle.std.specs.Float.{nan, binary64}
 use Rattle.std.specs.Float.Ieee.{of_bits, to_bits}
 use Rattle.plain.specs.declared.call.Call.TheVariants.{Withdraw}
 use Rattle.unhex.specs.Digits.{all_digits, hex_at}
-use Rattle.hex.specs.Hex.{digits}
+use Rattle.hex_digits.specs.Hex.{digits}
 use Rattle.wire.specs.declared.frame.Frame.TheVariants.{Fresh, Told, Mean, NotAFrame}
 use Rattle.wire.specs.declared.reply.Reply.TheVariants as reply
 use Rattle.wire.specs.Frame.{framed, frame_of}

@@ -23,7 +23,7 @@ pub const NAMED: usize = 6;
 pub const ASKED: usize = 2;
 
 // A frame by value.
-#[derive(Drop)]
+#[derive(Clone, Copy)]
 pub enum Frame {
     // Starts a fresh board of this radius.
     Fresh(f64),
@@ -40,7 +40,7 @@ pub enum Frame {
 fn float_at(s: &[u8], at: usize) -> f64
     ensures { result ≡ spec.float_at lows_in s.now at }
 {
-    patterns::from_bits(hex::sixteen_at(s, at))
+    patterns::from_bits(hex_digits::sixteen_at(s, at))
 }
 
 // The identity in the 4 digits of s past the kind.
@@ -48,7 +48,7 @@ fn identity(s: &[u8]) -> u16
     requires { 6 ≤ length s.now }
     ensures { result ≡ spec.identity_in lows_in s.now }
 {
-    (hex::two_at(s, 2) * 256 + hex::two_at(s, 4)) as u16
+    (hex_digits::two_at(s, 2) * 256 + hex_digits::two_at(s, 4)) as u16
 }
 
 // The position in the 48 digits of s from at on.
@@ -165,7 +165,7 @@ pub fn read_known(s: &[u8], digits: bool) -> Frame
     if s.len() < ASKED {
         return Frame::NotAFrame;
     }
-    let kind = hex::two_at(s, 0);
+    let kind = hex_digits::two_at(s, 0);
     match kind {
         0 => fresh_of(s),
         1 => report_of(s),
@@ -188,5 +188,5 @@ pub fn read(s: &[u8]) -> Frame
     if s.len() > MOST_FRAME_DIGITS {
         return Frame::NotAFrame;
     }
-    read_known(s, hex::all_digits(s))
+    read_known(s, hex_digits::all_digits(s))
 }

@@ -1,7 +1,7 @@
 // The digits of a reply, written into a lent part of a page.
 ghost use Rattle.std.specs.Prelude.{◌≡◌, ◌+◌, ◌≤◌, length};
-ghost use Rattle.hex.specs.Hex.{digits};
-ghost use Rattle.hex.specs.Write.{Put, Wrote};
+ghost use Rattle.hex_digits.specs.Hex.{digits};
+ghost use Rattle.hex_digits.specs.Write.{Put, Wrote};
 ghost use Rattle.arcs.specs.Side.{side_number};
 ghost use Rattle.wire.specs.Reply as spec;
 
@@ -20,7 +20,7 @@ const NO_FRAME: u8 = 1;
 pub const MOST_REPLY_DIGITS: usize = 114;
 
 // A reply by value.
-#[derive(Drop)]
+#[derive(Clone, Copy)]
 pub enum Reply {
     // A kind that is done and hands out nothing.
     Done(u8),
@@ -38,8 +38,8 @@ fn put_two(out: &mut [u8], at: usize, kind: u8, number: u8) -> usize
     requires { at + 4 ≤ length out.old }
     ensures { Wrote out.old at 4 (spec.two kind number) out.new result }
 {
-    let next = hex::put_number(out, at, kind as u64, 2);
-    hex::put_number(out, next, number as u64, 2)
+    let next = hex_digits::put_number(out, at, kind as u64, 2);
+    hex_digits::put_number(out, next, number as u64, 2)
 }
 
 // The 16 digits of a float's bits.
@@ -47,7 +47,7 @@ fn put_float(out: &mut [u8], at: usize, x: f64) -> usize
     requires { at + 16 ≤ length out.old }
     ensures { Wrote out.old at 16 (spec.float_digits x) out.new result }
 {
-    hex::put_number(out, at, patterns::to_bits(x), 16)
+    hex_digits::put_number(out, at, patterns::to_bits(x), 16)
 }
 
 // The two digits of a side.
@@ -55,7 +55,7 @@ fn put_side(out: &mut [u8], at: usize, side: Side) -> usize
     requires { at + 2 ≤ length out.old }
     ensures { Wrote out.old at 2 (digits 2 (side_number side)) out.new result }
 {
-    hex::put_number(out, at, side.number() as u64, 2)
+    hex_digits::put_number(out, at, side.number() as u64, 2)
 }
 
 // Number, nanoseconds and count of an outcome: 20 digits.
@@ -63,9 +63,9 @@ fn put_outcome(out: &mut [u8], at: usize, o: Outcome) -> usize
     requires { at + 20 ≤ length out.old }
     ensures { Wrote out.old at 20 (spec.outcome_digits o) out.new result }
 {
-    let time = hex::put_number(out, at, o.number() as u64, 2);
-    let count = hex::put_number(out, time, o.nanoseconds(), 16);
-    hex::put_number(out, count, o.count() as u64, 2)
+    let time = hex_digits::put_number(out, at, o.number() as u64, 2);
+    let count = hex_digits::put_number(out, time, o.nanoseconds(), 16);
+    hex_digits::put_number(out, count, o.count() as u64, 2)
 }
 
 // The fields of a line: 110 digits.
@@ -129,11 +129,11 @@ fn write(out: &mut [u8], at: usize, reply: Reply) -> usize
         }
         Reply::Pick(identity) => {
             let next = put_two(out, at, 7, 0);
-            hex::put_number(out, next, identity as u64, 4)
+            hex_digits::put_number(out, next, identity as u64, 4)
         }
         Reply::Total(total) => {
             let next = put_two(out, at, 8, 0);
-            hex::put_number(out, next, total as u64, 8)
+            hex_digits::put_number(out, next, total as u64, 8)
         }
         Reply::NotAFrame => put_two(out, at, NO_KIND, NO_FRAME),
     }

@@ -1,0 +1,7 @@
+-- `high_product` meets its contract: no column exceeds a word.
+use Rattle.std.proofs.Common.{arith}
+use Rattle.patterns.proofs.Halves.{Bounded, bounded, high_word}
+use Rattle.patterns.proofs.words.high_product.Goals as goal
+
+pub returns : goal.returns
+returns c = high_word c.args.a c.args.b

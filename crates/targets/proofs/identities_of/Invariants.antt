@@ -1,0 +1,18 @@
+-- `identities_of` lays the identities over zeros, one by one.
+use Prim.Native.Nat.{ℕ, ◌-◌, ◌≤◌}
+use native.Mathlib.Omega.{arith}
+use mathlib.Core.Path.{◌≡◌, ◌∙◌, ap}
+use mathlib.Core.List.{◌++◌, map}
+use lib.Seq.{take_all, get_or-take, length-take-le}
+use lib.ListN.{get_or-map, length, take, drop, replicate, length-replicate}
+use borrow.Author.Rules.{rules}
+use Rattle.plain.specs.Targets.{most_targets}
+use Rattle.targets.specs.Slots.{identity_of, identities}
+use Rattle.targets.proofs.Arrays.{absent, length-map, laid}
+use Rattle.targets.proofs.identities_of.Given as goal
+
+abbrev pub invariant-loop-i : goal.invariant-loop-i
+invariant-loop-i l = (l.i ≤ l.n) × (length l.entries ≡ most_targets) × (l.out ≡ take l.i (map identity_of (take l.n l.entries)) ++ drop l.i (replicate most_targets 0))
+
+abbrev pub decreases-loop-i : goal.decreases-loop-i
+decreases-loop-i l = l.n - l.i
