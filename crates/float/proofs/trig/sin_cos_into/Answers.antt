@@ -1,0 +1,20 @@
+-- `sin_cos_into` meets its contract.
+use mathlib.Core.Path.{refl, sym}
+use Rattle.float.specs.Trig as spec
+use Rattle.patterns.proofs.Pattern.{is-nan}
+use Rattle.float.specs.Table.{sine-of-nan, cosine-of-nan}
+use Rattle.float.proofs.trig.sin_cos_into.Goals as goal
+
+pub returns-then-x : goal.returns-then-x
+returns-then-x c = rw (is-nan c.args.x c.if-x.true) (sym sine-of-nan, sym cosine-of-nan)
+
+pub returns : goal.returns
+unfolding spec.sin spec.cos
+returns c =
+    rw (
+      c.negated_if.ensures,
+      c.sign_bit.ensures,
+      c.both_at-both.ensures,
+      c.reduce-a.ensures,
+    )
+    (refl, refl)

@@ -1,0 +1,8 @@
+-- `sine_series` meets its contract.
+use mathlib.Core.Path.{refl}
+use lib.Ieee.{of_int, of_bits, neg}
+use Rattle.float.proofs.trig.sine_series.Goals as goal
+
+pub returns : goal.returns
+unfolding of_int of_bits neg
+returns c = refl
