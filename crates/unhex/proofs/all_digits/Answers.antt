@@ -1,9 +1,8 @@
 -- The invariant: ok says whether the last 16 bytes and those before i are digits.
-use Prim.Native.Nat.{◌+◌, ◌-◌, ◌≤◌}
-use mathlib.Core.Bool.{◌&&◌}
-use mathlib.Core.Path.{refl, ◌≡◌, ◌∙◌}
+use Prim.Native.Nat.{◌-◌}
+use mathlib.Core.Path.{◌∙◌}
 use native.Mathlib.Omega.{arith}
-use lib.ListN.{length, take, drop}
+use lib.ListN.{length, drop}
 use Rattle.unhex.specs.Digits.{all_digits}
 use Rattle.unhex.proofs.Read.{last_block, block_on, blocks_end}
 use Rattle.unhex.proofs.all_digits.Goals as goal
@@ -18,8 +17,8 @@ loop-i-preserved c =
     let s = c.args.s.now in
     (omega arith, block_on s l.i 16 (all_digits (drop (length s - 16) s)) l.invariant.1 c.block_of_digits-ok-in-loop-i.ensures)
 
-pub returns : goal.returns
-returns c =
+pub returns-clause-value : goal.returns-clause-value
+returns-clause-value c =
     let l = c.loop-i in
     let s = c.args.s.now in
-    (l.invariant.1 ∙ blocks_end s (length s - 16) l.i (omega arith), refl)
+    l.invariant.1 ∙ blocks_end s (length s - 16) l.i (omega arith)

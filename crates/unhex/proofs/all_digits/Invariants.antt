@@ -1,11 +1,9 @@
 -- The invariant: ok says whether the last 16 bytes and those before i are digits.
 use Prim.Native.Nat.{◌+◌, ◌-◌, ◌≤◌}
 use mathlib.Core.Bool.{◌&&◌}
-use mathlib.Core.Path.{refl, ◌≡◌, ◌∙◌}
-use native.Mathlib.Omega.{arith}
-use lib.ListN.{length, take, drop}
+use mathlib.Core.Path.{◌≡◌}
+use lib.ListN.{take, drop}
 use Rattle.unhex.specs.Digits.{all_digits}
-use Rattle.unhex.proofs.Read.{last_block, block_on, blocks_end}
 use Rattle.unhex.proofs.all_digits.Given as goal
 
 abbrev pub invariant-loop-i : goal.invariant-loop-i

@@ -1,11 +1,9 @@
 -- The invariant: all 16 are digits just where those passed are and all from i on are.
-use Prim.Native.Nat.{ℕ, ◌+◌, ◌-◌, ◌≤◌}
+use Prim.Native.Nat.{◌-◌, ◌≤◌}
 use mathlib.Core.Bool.{◌&&◌}
-use mathlib.Core.Path.{◌≡◌, refl, sym, ap, ◌∙◌}
-use native.Mathlib.Omega.{arith}
-use lib.ListN.{take, drop}
+use mathlib.Core.Path.{◌≡◌}
+use lib.ListN.{drop}
 use Rattle.unhex.specs.Digits.{all_digits}
-use Rattle.unhex.proofs.Read.{digits-on, digits-end, part_length}
 use Rattle.unhex.proofs.block_of_digits.Given as goal
 
 abbrev pub invariant-loop-i : goal.invariant-loop-i

@@ -1,10 +1,6 @@
 -- The invariant: all bytes are digits just where those passed are and all from i on are.
-use Prim.Native.Nat.{◌≤◌, ◌-◌}
-use mathlib.Core.Bool.{◌&&◌}
-use mathlib.Core.Path.{◌≡◌, refl, sym, ◌∙◌}
+use mathlib.Core.Path.{sym, ◌∙◌}
 use native.Mathlib.Omega.{arith}
-use lib.ListN.{length, drop}
-use Rattle.unhex.specs.Digits.{all_digits}
 use Rattle.unhex.proofs.Read.{digits-on, digits-end}
 use Rattle.unhex.proofs.each_digit.Goals as goal
 

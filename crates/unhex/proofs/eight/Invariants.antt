@@ -1,11 +1,6 @@
 -- From the last byte to the first: the bytes past i stand in v.
-use Prim.Native.Nat.{◌+◌, ◌-◌, ◌≤◌, ◌<◌}
-use mathlib.Core.Path.{refl}
-use native.Mathlib.Omega.{arith}
-use lib.ListN.{get_or}
-use Rattle.unhex.proofs.Fold.{Word, word_none, word_next, word_room, word-whole}
-use Rattle.unhex.proofs.eight.Reads as reads
-use Rattle.unhex.proofs.eight.Lts as lts
+use Prim.Native.Nat.{◌+◌, ◌-◌, ◌≤◌}
+use Rattle.unhex.proofs.Fold.{Word}
 use Rattle.unhex.proofs.eight.Given as goal
 
 abbrev pub invariant-loop-i : goal.invariant-loop-i

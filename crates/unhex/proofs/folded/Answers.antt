@@ -1,12 +1,10 @@
 -- Each mask is the one that proofs/Fold.antt defines, by computation, so its laws join the digits level by level.
-use Prim.Native.Nat.{ℕ, ◌+◌, ◌*◌, ◌/◌, ◌^◌, ◌<◌}
+use Prim.Native.Nat.{ℕ, ◌^◌, ◌<◌}
 use mathlib.Core.Path.{◌≡◌, ◌∙◌}
-use native.Mathlib.Nat.{mod-eq_of_lt, mul-le-mul_right}
+use native.Mathlib.Nat.{mod-eq_of_lt}
 use native.Mathlib.Omega.{arith}
-use lib.Bits.{bit_and, and_le_r}
+use lib.Bits.{and_le_r}
 use lib.Dec.{lit<}
-use mir.Syntax.{w64}
-use mir.Val.{Fits}
 use Rattle.unhex.specs.Digits.{lows_of}
 use Rattle.unhex.proofs.Fold.{mask, joined, paired, paired-joined, spread, spread-joined}
 use Rattle.unhex.proofs.folded.Goals as goal
@@ -37,4 +35,4 @@ fold_law w h =
     ∙ spread-joined 8 w
 
 pub returns : goal.returns
-returns c = fold_law c.args.w (add-result c).ranges
+returns c = fold_law c.args.w (omega (arith, and_le_r))

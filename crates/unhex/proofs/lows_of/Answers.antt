@@ -1,9 +1,9 @@
 -- The invariant: v is the number of the first i bytes.
-use Prim.Native.Nat.{ℕ, ◌-◌, ◌≤◌}
-use mathlib.Core.Path.{◌≡◌, refl, sym, ap, ◌∙◌}
+use Prim.Native.Nat.{ℕ}
+use mathlib.Core.Path.{refl, sym, ap}
 use native.Mathlib.Nat.{zero-add}
 use native.Mathlib.Omega.{arith}
-use lib.ListN.{length, get_or}
+use lib.ListN.{get_or}
 use Rattle.unhex.specs.Digits.{lows_at}
 use Rattle.unhex.proofs.Read.{lows-reads, room, next}
 use Rattle.unhex.proofs.lows_of.Goals as goal

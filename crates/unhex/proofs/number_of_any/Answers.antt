@@ -1,6 +1,5 @@
 -- The invariant: v is the number of the first i digits.
-use Prim.Native.Nat.{◌-◌, ◌≤◌}
-use mathlib.Core.Path.{◌≡◌, refl, ap, ◌∙◌}
+use mathlib.Core.Path.{refl}
 use native.Mathlib.Omega.{arith}
 use Rattle.unhex.specs.Digits.{hex_at}
 use Rattle.unhex.proofs.Read.{digit-below, hex-reads, room, next}

@@ -1,9 +1,7 @@
 -- The invariant: v is the number of the first i digits.
 use Prim.Native.Nat.{◌-◌, ◌≤◌}
-use mathlib.Core.Path.{◌≡◌, refl, ap, ◌∙◌}
-use native.Mathlib.Omega.{arith}
+use mathlib.Core.Path.{◌≡◌}
 use Rattle.unhex.specs.Digits.{hex_at}
-use Rattle.unhex.proofs.Read.{digit-below, hex-reads, room, next}
 use Rattle.unhex.proofs.number_of_any.Given as goal
 
 abbrev pub invariant-loop-i : goal.invariant-loop-i

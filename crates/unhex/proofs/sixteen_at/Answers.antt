@@ -1,9 +1,8 @@
 -- Sixteen digits are two halves of eight.
 use Prim.Native.Nat.{◌+◌}
-use mathlib.Core.Path.{refl, sym, ◌∙◌}
+use mathlib.Core.Path.{sym, ◌∙◌}
 use native.Mathlib.Omega.{arith}
-use Rattle.unhex.proofs.Read.{lows-gone, lows-there, lows-reads, below, halves}
-use borrow.Author.Rules.{rules}
+use Rattle.unhex.proofs.Read.{lows-there, lows-reads, below, halves}
 use Rattle.unhex.proofs.sixteen_at.Goals as goal
 
 pub overflow_mul-result : goal.overflow_mul-result
@@ -19,9 +18,9 @@ overflow_add-result c =
     let l = c.folded-rest.ensures ∙ c.eight-2.ensures in
     omega (arith, h, l, below lows-reads a.s.now a.at 8, below lows-reads a.s.now (a.at + 8) 8)
 
-pub returns : goal.returns
-returns c =
+pub returns-clause-value : goal.returns-clause-value
+returns-clause-value c =
     let a = c.args in
     let h = c.folded-high.ensures ∙ c.eight.ensures in
     let l = c.folded-rest.ensures ∙ c.eight-2.ensures in
-    (rw (h, l) (sym (halves lows-reads a.s.now a.at 8 8) ∙ lows-there a.s.now a.at 16 (omega arith)), refl)
+    rw (h, l) (sym (halves lows-reads a.s.now a.at 8 8) ∙ lows-there a.s.now a.at 16 (omega arith))
