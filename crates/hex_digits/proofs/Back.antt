@@ -38,7 +38,7 @@ digits-back ws zs (suc n) v =
     let d : digit_of (get_or (ws ++ ds ++ (b ∷ zs)) (length ws + n) 0) ≡ v % 16 =
     ap digit_of (get_or_at (ws ++ ds) b zs 0 (length ws + n) k) ∙ digit-back (v % 16) (omega arith) in
     let p : 0 < 16 ^ n = omega (arith, number-below [] 0 n) in
-    rw (e, digits-back ws (b ∷ zs) n (v / 16), d, pow-suc 16 n) (sym (mod-mul v p (lit< tt)))
+    ap (λ (l : List ℕ). hex_at l (length ws) (suc n)) e ∙ rw (digits-back ws (b ∷ zs) n (v / 16), d, pow-suc 16 n) (sym (mod-mul v p (lit< tt)))
 
 pub wrote-back : {xs out : List ℕ} {at next : ℕ} (n v : ℕ) → Wrote xs at n (digits n v) out next → hex_at out at n ≡ v % 16 ^ n
 unfolding over

@@ -1,12 +1,9 @@
 -- The invariant: the first i digits of v, written over what stands there now, give what all n of value would have given at the start.
-use Prim.Native.Nat.{ℕ, zero, suc, ◌+◌, ◌-◌, ◌/◌, ◌%◌, ◌≤◌, ◌<◌}
-use mathlib.Core.List.{List}
-use mathlib.Core.Path.{◌≡◌, refl, sym, ◌∙◌}
-use native.Mathlib.Omega.{arith}
-use lib.ListN.{length, set, length-set}
-use Rattle.hex_digits.specs.Hex.{byte_of, digits}
+use Prim.Native.Nat.{◌≤◌}
+use mathlib.Core.Path.{◌≡◌}
+use lib.ListN.{length}
+use Rattle.hex_digits.specs.Hex.{digits}
 use Rattle.hex_digits.specs.Write.{over}
-use Rattle.hex_digits.proofs.Write.{length_digits, over-nil, over-set, put-stays, put-fits}
 use Rattle.hex_digits.proofs.put_number.Given as goal
 
 abbrev pub invariant-loop-i : goal.invariant-loop-i
