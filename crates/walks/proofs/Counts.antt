@@ -64,10 +64,10 @@ module _ (f : Float → Step) where
   passed : (t u : Float) → f t ≡ step.Next u → (k : ℕ) → time_after f t (suc k) ≡ time_after f u k
   passed t u e k = ap (λ (s : Step). time_after f (after t s) k) e
 
-  goes_on : (t u : Float) → f t ≡ step.Next u → (n : ℕ) → ((i : ℕ) → i < n → goes_on (f (time_after f u i)) ≡ true)
+  goes_on_lem : (t u : Float) → f t ≡ step.Next u → (n : ℕ) → ((i : ℕ) → i < n → goes_on (f (time_after f u i)) ≡ true)
       → (i : ℕ) → i < suc n → goes_on (f (time_after f t i)) ≡ true
-  goes_on t u e n h zero l = ap goes_on e
-  goes_on t u e n h (suc i) l = ap (λ (v : Float). goes_on (f v)) (passed t u e i) ∙ h i (omega arith)
+  goes_on_lem t u e n h zero l = ap goes_on e
+  goes_on_lem t u e n h (suc i) l = ap (λ (v : Float). goes_on (f v)) (passed t u e i) ∙ h i (omega arith)
 
   later : (n : ℕ) (t u : Float) (count : ℕ) (s : Step) → f t ≡ step.Next u → EndsFrom f n u count s → EndsFrom f (suc n) t count s
   later n t u count s e r =
@@ -78,13 +78,13 @@ module _ (f : Float → Step) where
         is = omega arith;
         less = omega arith;
         finds = ap f (passed t u e r.k) ∙ r.finds;
-        before = goes_on t u e r.k r.before;
+        before = goes_on_lem t u e r.k r.before;
       }
 
   moved : (n : ℕ) (t u : Float) (w : Walk) → f t ≡ step.Next u → ToldFrom f n u w → ToldFrom f (suc n) t w
   moved n t u (walked.Accepted v count) e r = later n t u count (step.Accepted v) e r
   moved n t u (walked.ZeroDerivative count) e r = later n t u count step.ZeroDerivative e r
-  moved n t u walked.NotConverged e r = goes_on t u e n r
+  moved n t u walked.NotConverged e r = goes_on_lem t u e n r
 
   settled : (n : ℕ) (t : Float) (s : Step) → n < most_steps → f t ≡ s → ((u : Float) → ToldFrom f n u (walk f n u)) → ToldFrom f (suc n) t (settle (most_steps - n) s (walk f n))
   settled n t (step.Accepted u) h e r = here n t (step.Accepted u) h e
