@@ -1,5 +1,5 @@
 -- `of_parts` meets its contract: the digits are shifted up by the free places, or by the place where that is less.
-use Rattle.std.proofs.Common.{◌≡◌, ℕ, ◌+◌, ◌-◌, ◌*◌, ◌%◌, ◌^◌, ◌<◌, ◌≤◌, false, sym, refl, ap, ◌∙◌, le_refl, le_of_lt, arith, rules}
+use Rattle.std.proofs.Common.{◌≡◌, ℕ, ◌+◌, ◌-◌, ◌*◌, ◌%◌, ◌^◌, ◌<◌, ◌≤◌, false, sym, refl, ap, ◌∙◌, le_refl, le_of_lt, arith}
 use lib.Ieee.{binary64, odd, of_bits}
 use Rattle.patterns.proofs.Pattern.{no_nan}
 use Rattle.patterns.proofs.Leading.{zeros, zeros-in, pattern_lt, pattern-value}

@@ -1,5 +1,5 @@
 -- `far_rem` meets its contract.
-use Rattle.std.proofs.Common.{ℕ, ◌*◌, ◌%◌, ◌^◌, ◌<◌, sym, ap, ◌∙◌, lt_of_lt_of_le, le_of_lt, mod-lt, arith, rules}
+use Rattle.std.proofs.Common.{ℕ, ◌*◌, ◌%◌, ◌^◌, sym, ap, ◌∙◌, arith}
 use Rattle.remainders.proofs.Modulo.{mul-mod, shifted-out}
 use Rattle.remainders.proofs.modular.far_rem.Goals as goal
 

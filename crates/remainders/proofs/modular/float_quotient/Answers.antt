@@ -1,5 +1,5 @@
 -- `float_quotient` meets its contract: its patterns are no NaN's.
-use Rattle.std.proofs.Common.{arith, rules}
+use Rattle.std.proofs.Common.{arith}
 use Rattle.patterns.proofs.Pattern.{no_nan}
 use Rattle.remainders.proofs.modular.float_quotient.Goals as goal
 

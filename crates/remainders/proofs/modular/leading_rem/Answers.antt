@@ -1,5 +1,5 @@
 -- `leading_rem` meets its contract: a remainder shifted on leaves what the whole shift leaves.
-use Rattle.std.proofs.Common.{ℕ, ◌-◌, ◌*◌, ◌%◌, ◌^◌, ◌<◌, ap, ◌∙◌, lt_of_lt_of_le, le_of_lt, mod-lt, arith, shl_exact, rules}
+use Rattle.std.proofs.Common.{ℕ, ◌-◌, ◌*◌, ◌%◌, ◌^◌, ◌<◌, ap, ◌∙◌, lt_of_lt_of_le, le_of_lt, mod-lt, arith, shl_exact}
 use Rattle.remainders.proofs.Modulo.{shifted}
 use Rattle.remainders.proofs.modular.leading_rem.Goals as goal
 

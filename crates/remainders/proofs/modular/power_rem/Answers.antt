@@ -1,5 +1,5 @@
 -- `power_rem` meets its contract: the power is that of the bits of k that were taken.
-use Rattle.std.proofs.Common.{◌≡◌, ℕ, suc, ◌+◌, ◌-◌, ◌*◌, ◌/◌, ◌%◌, ◌^◌, ◌<◌, ◌≤◌, sym, ap, ◌∙◌, subst, lt_of_lt_of_le, le_of_suc-le-suc, le_of_lt, mod-lt, mod-eq_of_lt, one-mul, lt_of_not-le, not-le_of_lt, div-one, arith, pow_mono, shl_lt, shl_exact, shr-shr, shr_lt}
+use Rattle.std.proofs.Common.{◌≡◌, ℕ, suc, ◌+◌, ◌-◌, ◌*◌, ◌/◌, ◌%◌, ◌^◌, ◌<◌, ◌≤◌, sym, ap, ◌∙◌, subst, lt_of_lt_of_le, le_of_suc-le-suc, le_of_lt, mod-lt, mod-eq_of_lt, one-mul, lt_of_not-le, not-le_of_lt, arith, pow_mono, shl_lt, shl_exact, shr-shr, shr_lt}
 use Rattle.remainders.proofs.Modulo.{squared}
 use Rattle.patterns.proofs.Leading.{zeros, top}
 use Rattle.remainders.proofs.modular.power_rem.Goals as goal
@@ -48,8 +48,8 @@ power-lt : (c : goal.In-loop-left) → c.loop-left.power < 2 ^ 53
 power-lt c = lt_of_lt_of_le (subst (λ (n : ℕ). n < c.args.m) (sym c.loop-left.invariant.1) (mod-lt _ (omega arith))) (le_of_lt c.requires.3)
 
 -- the bits of k that are taken after this step
-abbrev taken : tie.In-loop invariant-loop decreases-loop → ℕ
-taken c = c.before.before.args.k / 2 ^ (c.before.loop.left - 1)
+abbrev taken : goal.In-loop-left → ℕ
+taken c = c.args.k / 2 ^ (c.loop-left.left - 1)
 
 exact : (c : goal.In-loop-left) → c.loop-left.power * 2 ^ (taken c % 2) % 2 ^ 64 ≡ c.loop-left.power * 2 ^ (taken c % 2)
 exact c = mod-eq_of_lt (lt_of_lt_of_le (shifted-lt c.loop-left.power (taken c) (power-lt c)) (omega arith))

@@ -1,12 +1,12 @@
 -- `shifted_rem` meets its contract: m is shifted up by its free places, and so is the dividend.
-use Rattle.std.proofs.Common.{◌≡◌, ℕ, ◌+◌, ◌-◌, ◌*◌, ◌/◌, ◌%◌, ◌^◌, ◌≤◌, ap, ◌∙◌, le_refl, arith, rules}
+use Rattle.std.proofs.Common.{◌≡◌, ℕ, ◌+◌, ◌-◌, ◌*◌, ◌/◌, ◌%◌, ◌^◌, ◌≤◌, ap, ◌∙◌, le_refl, arith}
 use Rattle.remainders.proofs.Modulo.{shifted-both}
 use Rattle.patterns.proofs.Leading.{zeros, zeros-in, shift-exact, shift-lt, shift-lead}
 use Rattle.remainders.proofs.modular.shifted_rem.Goals as goal
 
 -- the free places of m
-abbrev room : tie.Else2 → ℕ
-room c = zeros c.before.before.args.m - 11
+abbrev room : goal.Else-m-ge-LEAST → ℕ
+room c = zeros c.args.m - 11
 
 free : (c : goal.Else-m-ge-LEAST) → (11 ≤ zeros c.args.m) × (zeros c.args.m ≤ 63)
 free c = zeros-in c.args.m c.requires.2 c.requires.3
