@@ -3,4 +3,3 @@ pub mod Positions
 pub mod Means
 pub mod Coordinates
 pub mod Entries
-pub mod Slices

@@ -1,15 +1,11 @@
 -- `among` meets its contract. The loop has passed numbers of which one is x or none.
 use Prim.Native.Nat.{◌-◌, ◌≤◌}
-use native.Mathlib.Nat.{sub-zero}
-use native.Mathlib.Omega.{arith}
 use mathlib.Core.Bool.{◌||◌}
-use mathlib.Core.Path.{◌≡◌, sym, ap}
+use mathlib.Core.Path.{◌≡◌}
 use lib.Ieee as Ieee
 use lib.Ieee.{Float}
-use borrow.Author.Rules.{rules}
 use Rattle.means.specs.Mean.{any}
 use Rattle.means.specs.Laid.{from, part_at}
-use Rattle.means.proofs.Laid.{any-on, any_out}
 use Rattle.means.proofs.columns.among.Given as goal
 
 abbrev pub invariant-loop-i : goal.invariant-loop-i

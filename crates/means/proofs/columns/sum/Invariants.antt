@@ -1,13 +1,9 @@
 -- `sum` meets its contract. The loop has summed the positions passed.
 use Prim.Native.Nat.{◌-◌, ◌≤◌}
-use native.Mathlib.Nat.{sub-zero}
-use native.Mathlib.Omega.{arith}
-use mathlib.Core.Path.{◌≡◌, sym, ap, ◌∙◌}
-use borrow.Author.Rules.{rules}
+use mathlib.Core.Path.{◌≡◌}
 use Rattle.vectors.specs.Vec3.{ZERO}
 use Rattle.means.specs.Mean.{fold, plus}
 use Rattle.means.specs.Laid.{from, laid_at}
-use Rattle.means.proofs.Laid.{fold_on, fold_out}
 use Rattle.means.proofs.columns.sum.Given as goal
 
 abbrev pub invariant-loop-i : goal.invariant-loop-i
