@@ -1,0 +1,17 @@
+-- `raise` meets its contract. Three sums modulo 2^32 are one.
+use Rattle.std.proofs.Common.{rules}
+use Rattle.plain.specs.Line.{counts}
+use Rattle.questions.proofs.Wrapping.{thrice}
+use Rattle.questions.proofs.line.raise.Goals as goal
+
+pub returns : goal.returns
+unfolding counts
+returns c =
+    rw (
+      c.wrapping_add_u32.ensures.value,
+      c.count-3.ensures,
+      c.wrapping_add_u32-b.ensures.value,
+      c.count-2.ensures,
+      c.wrapping_add_u32-a.ensures.value,
+      c.count.ensures,
+    ) (thrice _ _ _ _)
