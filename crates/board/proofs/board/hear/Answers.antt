@@ -1,0 +1,73 @@
+-- `hear` meets its contract. A refused call leaves the board; an accepted one leaves the array that its change makes, and that stands for
+-- the plain board's targets.
+use native.Mathlib.Omega.{arith}
+use Prim.Native.Nat.{◌<◌}
+use mathlib.Core.Bool.{false≢true}
+use mathlib.Core.Path.{◌≡◌, refl, sym, subst, ◌∙◌}
+use borrow.Author.Tests.{not-true, not-false}
+use borrow.Author.Rules.{rules}
+use Rattle.targets.specs.declared.Change.{Change}
+use Rattle.plain.specs.Targets.{most_targets, at_most, listed}
+use Rattle.plain.specs.Code.{plain}
+use Rattle.board.specs.Change.{entries_after, Within}
+use Rattle.plain.proofs.Listed.{at-most-le}
+use Rattle.plain.proofs.Played.{heard-refused}
+use Rattle.board.proofs.Changes.{sought-is, answered-is, within-is, changed-is}
+use Rattle.board.proofs.board.hear.Goals as goal
+use Rattle.board.proofs.board.hear.Goals.{in-Stays, in-Stores, in-Inserts, in-Removes, in-Sweeps}
+
+pub returns-then-refuses : goal.returns-then-refuses
+unfolding plain listed
+returns-then-refuses c =
+    let a = c.args in
+    let s = sought-is a.board.targets _ _ _ _ c.seek_in-sought.ensures c.least-n.ensures c.name_of.ensures in
+    let k = answered-is a.board a.call _ _ _ c.answer_of-answer.ensures s.1 s.2 in
+    record {
+      answer_is = k;
+      board_is = heard-refused a.board a.call _ k (not-true _ (sym c.refuses.ensures ∙ c.if-refuses.true));
+      refused_keeps = λ e. refl;
+    }
+
+-- a target that takes the place of another takes that of one of the entries
+place-below : (c : goal.In-Stores) → c.in-Stores.p < most_targets
+unfolding Within
+place-below c =
+    let a = c.args in
+    let k = c.seek_in-sought.ensures in
+    let s = sought-is a.board.targets _ _ _ _ k c.least-n.ensures
+    c.name_of.ensures in
+    let w = within-is a.board a.call _ _ _ _ k.length_is s.0 s.1 c.change_of-change.ensures in
+    let v = subst (λ (r : Change). Within r (at_most a.board.targets.count)) c.in-Stores.is w in
+    omega (arith, v, at-most-le a.board.targets.count)
+
+pub offset_bounds-entries-p : goal.offset_bounds-entries-p
+offset_bounds-entries-p c = omega (arith, place-below c)
+
+pub bounds-entries-p : goal.bounds-entries-p
+bounds-entries-p c = place-below c
+
+pub returns : goal.returns
+unfolding entries_after
+returns c =
+    let a = c.args in
+    let k = c.seek_in-sought.ensures in
+    let n = c.least-n.ensures in
+    let s = sought-is a.board.targets _ _ _ _ k n c.name_of.ensures in
+    let q = answered-is a.board a.call _ _ _ c.answer_of-answer.ensures s.1 s.2 in
+    let yes' = not-false _ (sym c.refuses.ensures ∙ c.if-refuses.false) in
+    -- each arm leaves what its change makes of the entries
+    let arms : (c.match-change.change ≡ c.change_of-change.result) × (c.match-change.entries ≡ entries_after c.change_of-change.result a.board.targets.entries) =
+    elim c.match-change.branch [
+      | in-Stays w ↦ rw (w.change-is, w.entries-is, w.in-Stays.is) (refl, refl)
+      | in-Stores w ↦ rw (w.change-is, w.entries-is, w.in-Stores.is) (refl, refl)
+      | in-Inserts w ↦ rw (w.change-is, w.entries-is, w.inserted-entries.ensures, w.in-Inserts.is) (refl, refl)
+      | in-Removes w ↦ rw (w.change-is, w.entries-is, w.closed-entries.ensures, w.in-Removes.is) (refl, refl)
+      | in-Sweeps w ↦ rw (w.change-is, w.entries-is, w.bared-entries.ensures, w.in-Sweeps.is) (refl, refl)
+    ] in
+    record {
+      answer_is = q;
+      board_is =
+          rw (c.total_after.ensures, c.track_after.ensures, c.own_after.ensures)
+          (changed-is a.board a.call _ _ _ _ k.length_is s.0 s.1 c.change_of-change.ensures _ _ q yes' arms.1 (c.count_after.ensures ∙ rw (arms.0, n)));
+      refused_keeps = λ e. absurd (false≢true (sym e ∙ yes'));
+    }

@@ -1,0 +1,25 @@
+-- `glance` meets its contract, call by call.
+use borrow.Author.Rules.{rules}
+use mathlib.Core.Path.{refl, ◌∙◌}
+use Rattle.board.specs.Glance.{glance}
+use Rattle.board.proofs.glance.glance.Goals as goal
+
+pub returns-in-Report-clause-value : goal.returns-in-Report-clause-value
+unfolding glance
+returns-in-Report-clause-value c = rw c.in-Report.is c.at_report.ensures
+
+pub returns-in-Withdraw-clause-value : goal.returns-in-Withdraw-clause-value
+unfolding glance
+returns-in-Withdraw-clause-value c = rw c.in-Withdraw.is
+
+pub returns-in-OwnShip-clause-value : goal.returns-in-OwnShip-clause-value
+unfolding glance
+returns-in-OwnShip-clause-value c = c.at_setting.ensures ∙ rw (c.in-OwnShip.is, c.ask_fix.ensures)
+
+pub returns-in-Track-clause-value : goal.returns-in-Track-clause-value
+unfolding glance
+returns-in-Track-clause-value c = c.at_setting-in-Track.ensures ∙ rw (c.in-Track.is, c.ask_ends.ensures)
+
+pub returns-in-Solve-clause-value : goal.returns-in-Solve-clause-value
+unfolding glance
+returns-in-Solve-clause-value c = rw c.in-Solve.is
