@@ -1,0 +1,15 @@
+-- The line that has begun, and then the lines after it.
+use mathlib.Core.Path.{refl}
+use borrow.Author.Rules.{rules}
+use native.Mathlib.Omega.{arith}
+use Rattle.frames.proofs.Feeds.{going-feeds, used-within, next-within, feeding-then}
+use Rattle.frames.proofs.stream.feed.Goals as goal
+
+pub overflow_add-used : goal.overflow_add-used
+overflow_add-used c =
+    omega (arith, c.well_formed.1.0.0, used-within c.go_on-first.ensures c.lines-rest.ensures)
+
+pub returns-clause-feeding : goal.returns-clause-feeding
+returns-clause-feeding c =
+    let went = c.go_on-first.ensures in
+    feeding-then went c.lines-rest.ensures

@@ -1,0 +1,8 @@
+-- `session_of` meets its contract.
+use borrow.Author.Rules.{rules}
+use Rattle.sessions.specs.Quick.{session_of}
+use Rattle.frames.proofs.stream.session_of.Goals as goal
+
+pub returns : goal.returns
+unfolding session_of
+returns c = rw c.board_of.ensures
