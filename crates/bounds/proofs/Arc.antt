@@ -76,9 +76,9 @@ abbrev all_small : ℕ → Bool
 all_small zero = true
 all_small (suc k) = is_small (arc_coefficient (suc k)) && all_small k
 
-all_small : T (all_small 20)
+all_small_lem : T (all_small 20)
 unfolding units_of neg div of_int
-all_small = tt
+all_small_lem = tt
 
 one_of : (n k : ℕ) → T (all_small n) → k < n → T (is_small (arc_coefficient (suc k)))
 one_of zero k t h = let z : ⊥ = omega arith in absurd z
@@ -90,7 +90,7 @@ one_of (suc n) k t h = elim (eq-or-lt_of_le (le_of_suc-le-suc h)) [
 coefficient-in : (k : ℕ) → k < 20 → Within (arc_coefficient (suc k)) (2 ^ 1073)
 coefficient-in k h =
     let x = arc_coefficient (suc k) in
-    let t = one_of 20 k all_small h in
+    let t = one_of 20 k all_small_lem h in
     within_held x (2 ^ 1073) (div-fits binary64 _ _) (and_l (finite x) _ t) (leb→le (units_of x) (2 ^ 1073) (and_r (finite x) _ t))
 
 -- ---- the series
