@@ -3,7 +3,6 @@ use Rattle.std.proofs.Common.{ap, not}
 use mathlib.Core.Path.{◌∙◌}
 use native.Mathlib.Omega.{arith}
 use lib.Ieee.{of_bits, of_int}
-use borrow.Author.Rules.{rules}
 use Rattle.duration.specs.Duration.{product, zero_or_more, product_below, product_nanoseconds, from_hours}
 use Rattle.duration.proofs.Questions.{first-no, second-no, both}
 use Rattle.duration.proofs.Range.{product-digits, whole_same}

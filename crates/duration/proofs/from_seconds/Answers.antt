@@ -4,7 +4,6 @@ use mathlib.Core.Path.{sym, ◌∙◌, subst}
 use native.Mathlib.Omega.{arith}
 use lib.Dec.{T}
 use lib.Ieee.{of_bits, of_int}
-use borrow.Author.Rules.{rules}
 use Rattle.duration.specs.Duration.{zero_or_more, below_limit, exact_nanoseconds, from_seconds}
 use Rattle.duration.proofs.Questions.{first-no, second-no, both}
 use Rattle.duration.proofs.Range.{seconds-digits, seconds-same}

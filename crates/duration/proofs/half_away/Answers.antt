@@ -1,10 +1,8 @@
 -- `half_away` meets its contract.
-use mathlib.Core.Path.{sym, ap, ◌∙◌, subst}
-use Prim.Native.Nat.{ℕ, ◌+◌, ◌-◌, ◌*◌, ◌/◌, ◌%◌, ◌^◌, ◌<◌}
-use native.Mathlib.Nat.{div-le_self}
+use mathlib.Core.Path.{sym, ap, ◌∙◌}
+use Prim.Native.Nat.{ℕ, ◌+◌, ◌-◌, ◌/◌}
 use native.Mathlib.Omega.{arith}
-use lib.Pow.{pow_pos, shl_exact}
-use borrow.Author.Rules.{rules}
+use lib.Pow.{shl_exact}
 use Rattle.duration.proofs.Places.{one_shifted, from-units, below-units, under-half}
 use Rattle.duration.proofs.half_away.Goals as goal
 

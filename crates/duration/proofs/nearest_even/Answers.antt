@@ -1,15 +1,13 @@
 -- `nearest_even` meets its contract.
-use mathlib.Core.Path.{◌≡◌, sym, ap, ◌∙◌, subst}
-use Prim.Native.Nat.{ℕ, ◌+◌, ◌*◌, ◌-◌, ◌/◌, ◌%◌, ◌^◌, ◌≤◌, ◌<◌}
+use mathlib.Core.Path.{◌≡◌, sym, ap, ◌∙◌}
+use Prim.Native.Nat.{ℕ, ◌+◌, ◌*◌, ◌-◌, ◌/◌, ◌%◌, ◌^◌, ◌≤◌}
 use native.Mathlib.Omega.{arith}
 use mathlib.Core.Bool.{Bool, true, not}
 use lib.Dec.{eqb}
-use lib.Pow.{pow_pos}
 use lib.Ieee.Nearest.{closest}
-use borrow.Author.Rules.{rules}
 use borrow.Author.Tests.{ne_eqb}
 use Rattle.duration.specs.Duration.{second, settled}
-use Rattle.duration.proofs.Places.{one_shifted, high, under, none, at-ten, past-ten, room}
+use Rattle.duration.proofs.Places.{one_shifted, high, under, none, at-ten, past-ten}
 use Rattle.duration.proofs.nearest_even.Goals as goal
 
 pub returns-then-k-gt74 : goal.returns-then-k-gt74

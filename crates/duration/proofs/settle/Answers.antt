@@ -1,6 +1,5 @@
 -- `settle` meets its contract.
 use borrow.Author.Tests.{eq-eqb, ne_eqb}
-use borrow.Author.Rules.{rules}
 use Rattle.duration.specs.Duration.{settled}
 use Rattle.duration.proofs.settle.Goals as goal
 

@@ -1,5 +1,5 @@
 -- `from_bits` meets its contract: the patterns above the infinity's are the NaNs.
-use Rattle.std.proofs.Common.{sym, ◌∙◌, rules}
+use Rattle.std.proofs.Common.{sym, ◌∙◌}
 use Rattle.patterns.proofs.Pattern.{zero_by_zero, nan-read, no_nan}
 use Rattle.patterns.proofs.from_bits.Goals as goal
 

@@ -1,5 +1,5 @@
 -- `to_bits` meets its contract: a NaN's pattern is the one that `to_bits` writes.
-use Rattle.std.proofs.Common.{sym, ap, rules}
+use Rattle.std.proofs.Common.{sym, ap}
 use lib.Ieee.{binary64, to_bits}
 use Rattle.patterns.proofs.Pattern.{is-nan, not-nan}
 use Rattle.patterns.proofs.to_bits.Goals as goal

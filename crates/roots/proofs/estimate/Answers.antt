@@ -1,6 +1,5 @@
 -- `estimate` meets its contract: a significand has 53 digits.
 use Rattle.patterns.proofs.Pattern.{not-nan}
-use borrow.Author.Rules.{rules}
 use Rattle.roots.proofs.estimate.Goals as goal
 
 pub float_to_bits-result : goal.float_to_bits-result

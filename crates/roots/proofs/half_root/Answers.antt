@@ -3,7 +3,6 @@ use mathlib.Core.Path.{sym, ◌∙◌}
 use Prim.Native.Nat.{◌+◌, ◌-◌, ◌*◌, ◌^◌}
 use native.Mathlib.Omega.{arith}
 use Rattle.roots.proofs.WholeRoot.{half_is}
-use borrow.Author.Rules.{rules}
 use Rattle.roots.proofs.half_root.Goals as goal
 
 pub returns-then-is_half_root : goal.returns-then-is_half_root

@@ -5,7 +5,7 @@ use lib.Pow.{pow_pos}
 use Rattle.roots.specs.Root.{whole_root}
 use Rattle.roots.proofs.WholeRoot.{root-unique, whole-root}
 use native.Mathlib.Omega.{arith}
-use Rattle.roots.proofs.Digits.{Found, digit-one-found, digit-zero-found, digits-found-are-root}
+use Rattle.roots.proofs.Digits.{digit-one-found, digit-zero-found, digits-found-are-root}
 use Rattle.roots.proofs.root_by_digits.Goals as goal
 
 first : {bit root : ℕ} (j : ℕ) → bit ≡ 2 ^ j → root + bit ≤ 2 ^ 54 → root < 2 ^ 54

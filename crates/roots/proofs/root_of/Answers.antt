@@ -5,8 +5,7 @@ use native.Mathlib.Omega.{arith}
 use lib.Ieee.{binary64, of_bits}
 use Rattle.patterns.proofs.Pattern.{no_nan}
 use Rattle.patterns.proofs.Leading.{zeros, zeros-in}
-use Rattle.roots.proofs.Lifted.{leads, shift-lt-64, lifted-lt, pattern_lt, pattern-value}
-use borrow.Author.Rules.{rules}
+use Rattle.roots.proofs.Lifted.{leads, lifted-lt, pattern_lt, pattern-value}
 use Rattle.roots.proofs.root_of.Goals as goal
 
 free : (c : goal.Start) → (11 ≤ zeros c.args.digits) × (zeros c.args.digits ≤ 63)

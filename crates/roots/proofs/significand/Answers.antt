@@ -1,7 +1,6 @@
 -- `significand` meets its contract: its patterns are no NaN's.
 use native.Mathlib.Omega.{arith}
 use Rattle.patterns.proofs.Pattern.{no_nan}
-use borrow.Author.Rules.{rules}
 use Rattle.roots.proofs.significand.Goals as goal
 
 pub float_from_bits-result : goal.float_from_bits-result

@@ -2,13 +2,12 @@
 use mathlib.Core.Path.{sym, ap, ◌∙◌, subst}
 use Prim.Native.Nat.{◌*◌, ◌^◌}
 use lib.Dec.{T}
-use lib.Ieee.{binary64, to_bits, fits}
+use lib.Ieee.{binary64, to_bits}
 use Rattle.patterns.specs.Bits.{digits, place}
 use Rattle.roots.specs.Root.{round_root}
 use Rattle.patterns.specs.declared.Unpacked.{Unpacked}
 use Rattle.patterns.proofs.Pattern.{not-nan, zero_by_zero}
 use Rattle.roots.proofs.Rooted.{Rooted, at-nan, at_zero, at-negative, at-infinity, left_over, rooted}
-use borrow.Author.Rules.{rules}
 use Rattle.roots.proofs.sqrt.Goals as goal
 
 pub returns-then-x : goal.returns-then-x

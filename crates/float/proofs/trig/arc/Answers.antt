@@ -1,7 +1,6 @@
 -- `arc` meets its contract.
 use Rattle.float.specs.Trig as spec
 use lib.Ieee.{of_int, of_bits}
-use borrow.Author.Rules.{rules}
 use Rattle.float.proofs.trig.arc.Goals as goal
 
 pub returns-then-t : goal.returns-then-t

@@ -4,7 +4,6 @@ use Rattle.float.specs.Trig as spec
 use Rattle.patterns.proofs.Pattern.{is-nan, not-nan}
 use Rattle.float.proofs.Tangent.{nan_left, nan_right, assemble}
 use lib.Ieee.{Float}
-use borrow.Author.Rules.{rules}
 use Rattle.float.proofs.trig.atan2.Goals as goal
 
 pub returns-then-y : goal.returns-then-y

@@ -2,7 +2,6 @@
 use mathlib.Core.Path.{refl}
 use Rattle.float.specs.Trig as spec
 use lib.Ieee.{of_int, of_bits}
-use borrow.Author.Rules.{rules}
 use Rattle.float.proofs.trig.offset.Goals as goal
 
 pub returns : goal.returns

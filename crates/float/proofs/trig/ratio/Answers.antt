@@ -1,6 +1,5 @@
 -- `ratio` meets its contract.
 use Rattle.float.specs.Trig as spec
-use borrow.Author.Rules.{rules}
 use Rattle.float.proofs.trig.ratio.Goals as goal
 
 pub returns-then-a-b : goal.returns-then-a-b

@@ -1,6 +1,5 @@
 -- `high_product` meets its contract: no column exceeds a word.
-use Rattle.std.proofs.Common.{arith}
-use Rattle.patterns.proofs.Halves.{Bounded, bounded, high_word}
+use Rattle.patterns.proofs.Halves.{high_word}
 use Rattle.patterns.proofs.words.high_product.Goals as goal
 
 pub returns : goal.returns

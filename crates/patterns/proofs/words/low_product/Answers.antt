@@ -1,6 +1,6 @@
 -- `low_product` meets its contract.
-use Rattle.std.proofs.Common.{ℕ, ◌+◌, ◌*◌, ◌%◌, ◌^◌, ap, ◌∙◌, arith, rules}
-use Rattle.patterns.proofs.Halves.{Bounded, bounded, low_word}
+use Rattle.std.proofs.Common.{ℕ, ◌+◌, ◌*◌, ◌%◌, ◌^◌, ap, ◌∙◌}
+use Rattle.patterns.proofs.Halves.{low_word}
 use Rattle.patterns.proofs.words.low_product.Goals as goal
 
 pub returns : goal.returns
