@@ -10,7 +10,7 @@ const PUBLISHED: &str = "../../shared/docs/src";
 
 fn main() {
     let here = PathBuf::from(variable("CARGO_MANIFEST_DIR"));
-    link(here.join("../target/staticlib"));
+    link(here.join("../crates/exports/out"));
     let source = env::var_os("JORD_SRC").map_or_else(|| here.join(PUBLISHED), PathBuf::from);
     println!("cargo::rerun-if-env-changed=JORD_SRC");
     println!("cargo::rerun-if-changed={}", source.display());

@@ -35,7 +35,7 @@ const USAGE: &str = "usage: compare whole [PERCENT] | scale [N] | time | jord [N
                      | nine [N] | chases [N] | thirteen [N] | solves | answer | sample STDIN STDOUT | probe [N] | board [N] | plots [N] \
                      | speeds | plot | costs | cost | session STDIN STDOUT";
 const NOT_LINKED: &str =
-    "no library: run `rt staticlib exports` in the repository's root, then build again";
+    "no library: run `rt lib` in crates/exports, then build again";
 const NOT_BUILT: &str = "no original: put its source in ../../shared/docs/src, or name its folder \
                          in JORD_SRC, then build again";
 /// Commands that need the original.
@@ -104,7 +104,7 @@ fn run(words: &[&str]) -> Result<bool, String> {
         ["plots", rest @ ..] => plots::run(count(rest, PLOTS)?).map_err(unplotted),
         ["speeds"] => speeds::run().map_err(unplotted),
         ["plot"] => plot::run().map(|()| true).map_err(|error| error.to_string()),
-        ["costs"] => costs::run().map_err(|error| format!("target/bin/costs: {error}")),
+        ["costs"] => costs::run().map_err(|error| format!("crates/costs/out/costs: {error}")),
         ["cost"] => cost::run().map(|()| true).map_err(|error| error.to_string()),
         ["probe", rest @ ..] => probe::compare(count(rest, PROBE)?).map_err(unfit),
         _ => Err(USAGE.into()),
@@ -113,11 +113,11 @@ fn run(words: &[&str]) -> Result<bool, String> {
 
 /// The program could not be run.
 fn unfit(error: io::Error) -> String {
-    format!("target/bin/probe: {error}")
+    format!("crates/probe/out/probe: {error}")
 }
 
 fn unplotted(error: io::Error) -> String {
-    format!("target/bin/plot: {error}")
+    format!("crates/plot/out/plot: {error}")
 }
 
 /// The one number handed over, or the usual one.

@@ -10,7 +10,7 @@ use std::sync::mpsc::{self, Receiver, Sender};
 use std::{env, mem, thread};
 
 /// The program, unless `PROBE` names another.
-const PROGRAM: &str = concat!(env!("CARGO_MANIFEST_DIR"), "/../target/bin/probe");
+const PROGRAM: &str = concat!(env!("CARGO_MANIFEST_DIR"), "/../crates/probe/out/probe");
 const SHOWN: usize = 5;
 /// Bytes that are handed over at once.
 const BATCH: usize = 1 << 16;

@@ -5,7 +5,7 @@ use std::ffi::OsString;
 use std::{env, io};
 
 /// The program, unless `COSTS` names another.
-const PROGRAM: &str = concat!(env!("CARGO_MANIFEST_DIR"), "/../target/bin/costs");
+const PROGRAM: &str = concat!(env!("CARGO_MANIFEST_DIR"), "/../crates/costs/out/costs");
 /// Many short rounds: other work on the machine then spoils some of them and not the best.
 const ROUNDS: usize = 25;
 /// Less than that many microseconds are no time, and have no ratio.

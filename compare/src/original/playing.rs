@@ -10,7 +10,7 @@ use std::time::Duration;
 use std::{env, fs, thread};
 
 /// The program, unless `PLOT` names another.
-const PROGRAM: &str = concat!(env!("CARGO_MANIFEST_DIR"), "/../target/bin/plot");
+const PROGRAM: &str = concat!(env!("CARGO_MANIFEST_DIR"), "/../crates/plot/out/plot");
 /// The lines of a run whose replies differ are kept here.
 const DIFFERING: &str = concat!(env!("OUT_DIR"), "/differing");
 const SHOWN: u64 = 5;

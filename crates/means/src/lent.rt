@@ -7,7 +7,7 @@ use jord::positions::NVector;
 use vectors::vec3::Vec3;
 
 // The mean of lent positions, the unit vector along their sum; one is its own mean. Empty (16) of none, Antipodal (17) where one is the negation of another or of itself.
-// Two loops in one function: each function over a slice of structs is walked by hand.
+// Two loops in one function: for each entry the inner one looks for its negation among all.
 pub fn mean_position_of(positions: &[NVector]) -> Mean
     ensures mean { result ≡ spec.mean_of positions.now }
     ensures unchanged { positions.now ≡ positions.now }

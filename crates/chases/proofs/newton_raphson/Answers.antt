@@ -1,9 +1,6 @@
--- `newton_raphson` meets its contract. The loop's invariant: what is left of the walk, from x, comes to what the whole walk comes to.
-use mathlib.Core.Path.{◌≡◌, sym, ◌∙◌}
-use Prim.Native.Nat.{◌-◌, ◌≤◌}
+-- `newton_raphson` meets its contract.
+use mathlib.Core.Path.{sym, ◌∙◌}
 use native.Mathlib.Omega.{arith}
-use borrow.Author.Rules.{rules}
-use Rattle.walks.specs.Walk.{most_steps, walk, cpa_step, newton_raphson}
 use Rattle.chases.proofs.Steps.{stepped, ended}
 use Rattle.chases.proofs.newton_raphson.Goals as goal
 

@@ -1,10 +1,7 @@
 -- `newton_raphson` meets its contract. The loop's invariant: what is left of the walk, from x, comes to what the whole walk comes to.
-use mathlib.Core.Path.{◌≡◌, sym, ◌∙◌}
+use mathlib.Core.Path.{◌≡◌}
 use Prim.Native.Nat.{◌-◌, ◌≤◌}
-use native.Mathlib.Omega.{arith}
-use borrow.Author.Rules.{rules}
 use Rattle.walks.specs.Walk.{most_steps, walk, cpa_step, newton_raphson}
-use Rattle.chases.proofs.Steps.{stepped, ended}
 use Rattle.chases.proofs.newton_raphson.Given as goal
 
 abbrev pub invariant-loop-i : goal.invariant-loop-i

@@ -1,4 +1,4 @@
--- The invariant: the first i digits of v, written over what stands there now, give what all n of value would have given at the start.
+-- `put_number` meets its contract.
 use Prim.Native.Nat.{ℕ, zero, suc, ◌+◌, ◌-◌, ◌/◌, ◌%◌, ◌≤◌, ◌<◌}
 use mathlib.Core.List.{List}
 use mathlib.Core.Path.{◌≡◌, sym, ◌∙◌}

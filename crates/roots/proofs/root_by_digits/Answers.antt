@@ -1,4 +1,4 @@
--- `root_by_digits` meets its contract: the measure is the weight of the last digit found.
+-- `root_by_digits` meets its contract.
 use mathlib.Core.Path.{◌≡◌, refl}
 use Prim.Native.Nat.{ℕ, ◌+◌, ◌*◌, ◌^◌, ◌≤◌, ◌<◌}
 use lib.Pow.{pow_pos}

@@ -1,4 +1,4 @@
--- The invariant: ok says whether the last 16 bytes and those before i are digits.
+-- `all_digits` meets its contract.
 use Prim.Native.Nat.{◌-◌}
 use mathlib.Core.Path.{◌∙◌}
 use native.Mathlib.Omega.{arith}

@@ -1,4 +1,4 @@
--- The invariant: all 16 are digits just where those passed are and all from i on are.
+-- `block_of_digits` meets its contract.
 use Prim.Native.Nat.{ℕ, ◌+◌, ◌-◌}
 use mathlib.Core.Path.{◌≡◌, sym, ap, ◌∙◌}
 use native.Mathlib.Omega.{arith}

@@ -1,4 +1,4 @@
--- The invariant: all bytes are digits just where those passed are and all from i on are.
+-- `each_digit` meets its contract.
 use mathlib.Core.Path.{sym, ◌∙◌}
 use native.Mathlib.Omega.{arith}
 use Rattle.unhex.proofs.Read.{digits-on, digits-end}

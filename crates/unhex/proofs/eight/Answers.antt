@@ -1,4 +1,4 @@
--- From the last byte to the first: the bytes past i stand in v.
+-- `eight` meets its contract.
 use Prim.Native.Nat.{◌+◌, ◌-◌}
 use mathlib.Core.Path.{refl}
 use native.Mathlib.Omega.{arith}

@@ -1,4 +1,4 @@
--- The invariant: v is the number of the first i bytes.
+-- `lows_of` meets its contract.
 use Prim.Native.Nat.{ℕ}
 use mathlib.Core.Path.{refl, sym, ap}
 use native.Mathlib.Nat.{zero-add}

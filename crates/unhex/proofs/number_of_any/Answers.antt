@@ -1,4 +1,4 @@
--- The invariant: v is the number of the first i digits.
+-- `number_of_any` meets its contract.
 use mathlib.Core.Path.{refl}
 use native.Mathlib.Omega.{arith}
 use Rattle.unhex.specs.Digits.{hex_at}

@@ -1,6 +1,5 @@
 -- `store` meets its contract: it writes in the one case that has nanoseconds.
 use mathlib.Core.Path.{refl}
-use borrow.Author.Rules.{rules}
 use Rattle.exports.specs.Durations.{stored}
 use Rattle.exports.proofs.durations.store.Goals as goal
 

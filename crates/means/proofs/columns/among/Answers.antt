@@ -1,4 +1,4 @@
--- `among` meets its contract. The loop has passed numbers of which one is x or none.
+-- `among` meets its contract.
 use native.Mathlib.Omega.{arith}
 use mathlib.Core.Bool.{◌||◌}
 use mathlib.Core.Path.{sym, ap}

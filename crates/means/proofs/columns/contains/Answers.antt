@@ -1,4 +1,4 @@
--- `contains` meets its contract. No x is a's, or the loop has passed positions that differ from a.
+-- `contains` meets its contract.
 use native.Mathlib.Omega.{arith}
 use mathlib.Core.Bool.{false}
 use mathlib.Core.Path.{sym, ap, ◌∙◌}

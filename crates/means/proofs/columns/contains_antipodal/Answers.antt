@@ -1,4 +1,4 @@
--- `contains_antipodal` meets its contract. The loop has passed positions whose antipodes are not among all.
+-- `contains_antipodal` meets its contract.
 use native.Mathlib.Omega.{arith}
 use mathlib.Core.Bool.{Bool, false}
 use mathlib.Core.List.{List}

@@ -1,4 +1,4 @@
--- `sum` meets its contract. The loop has summed the positions passed.
+-- `sum` meets its contract.
 use native.Mathlib.Omega.{arith}
 use mathlib.Core.Path.{sym, ap, ◌∙◌}
 use borrow.Author.Rules.{rules}

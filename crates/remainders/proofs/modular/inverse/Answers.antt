@@ -1,4 +1,4 @@
--- `inverse` meets its contract: after i steps the quotient and the rest are those of 2 ^ (52 + 11 * i).
+-- `inverse` meets its contract.
 use Rattle.std.proofs.Common.{◌≡◌, ℕ, ◌+◌, ◌*◌, ◌/◌, ◌%◌, ◌^◌, ◌<◌, ◌≤◌, sym, ap, ◌∙◌, ap₂, le_trans, le_of_eq, le_of_lt, mod-lt, div-lt_iff_lt-mul, arith, pow_mono, pow-add}
 use native.Mathlib.Nat.{div-le_of_le-mul}
 use Rattle.remainders.proofs.Modulo.{mod-mul, long-division}

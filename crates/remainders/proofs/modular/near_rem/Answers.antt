@@ -1,4 +1,4 @@
--- `near_rem` meets its contract: what is left of the shift, applied to the rest, gives the remainder sought.
+-- `near_rem` meets its contract.
 use Rattle.std.proofs.Common.{ℕ, ◌*◌, ◌%◌, ap, ◌∙◌, lt_of_lt_of_le, le_of_lt, mod-lt, arith, shl_exact}
 use Rattle.remainders.proofs.Modulo.{shifted}
 use Rattle.remainders.proofs.modular.near_rem.Goals as goal
