@@ -1,13 +1,11 @@
--- `bared` takes every line away. The loop lays the list without lines over the array, entry by entry.
-use Prim.Native.Nat.{◌-◌, ◌≤◌}
+-- `bared` meets its contract.
 use native.Mathlib.Omega.{arith}
 use mathlib.Core.Path.{◌≡◌, ◌∙◌, sym}
-use mathlib.Core.List.{◌++◌, map}
-use lib.Seq.{take_all}
-use lib.ListN.{get_or-map, length, take, drop}
+use mathlib.Core.List.{map}
+use lib.ListN.{get_or-map, length}
 use borrow.Author.Rules.{rules}
 use Rattle.plain.specs.Targets.{most_targets, bare_target}
-use Rattle.targets.proofs.Arrays.{absent, length-map, laid, laid-all}
+use Rattle.targets.proofs.Arrays.{absent, length-map, laid}
 use Rattle.targets.proofs.bared.Goals as goal
 
 pub loop-i-preserved : goal.loop-i-preserved

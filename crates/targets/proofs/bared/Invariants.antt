@@ -1,13 +1,9 @@
 -- `bared` takes every line away. The loop lays the list without lines over the array, entry by entry.
 use Prim.Native.Nat.{◌-◌, ◌≤◌}
-use native.Mathlib.Omega.{arith}
-use mathlib.Core.Path.{◌≡◌, ◌∙◌, sym}
+use mathlib.Core.Path.{◌≡◌}
 use mathlib.Core.List.{◌++◌, map}
-use lib.Seq.{take_all}
-use lib.ListN.{get_or-map, length, take, drop}
-use borrow.Author.Rules.{rules}
+use lib.ListN.{length, take, drop}
 use Rattle.plain.specs.Targets.{most_targets, bare_target}
-use Rattle.targets.proofs.Arrays.{absent, length-map, laid, laid-all}
 use Rattle.targets.proofs.bared.Given as goal
 
 abbrev pub invariant-loop-i : goal.invariant-loop-i

@@ -1,12 +1,9 @@
 -- `closed` closes the gap at p. The loop lays the list without p over the array, entry by entry.
-use Prim.Native.Nat.{◌+◌, ◌-◌, ◌≤◌, ◌<◌}
-use native.Mathlib.Omega.{arith}
-use mathlib.Core.Path.{◌≡◌, ◌∙◌, ap, sym}
-use mathlib.Core.List.{◌++◌, append_assoc}
-use lib.ListN.{length, take, drop, length-append, length-drop}
-use lib.Seq.{take_all}
-use borrow.Author.Rules.{rules}
-use Rattle.targets.proofs.Arrays.{remove_at, absent, laid, whole, length-removing, removing, removed-at}
+use Prim.Native.Nat.{◌-◌, ◌≤◌}
+use mathlib.Core.Path.{◌≡◌}
+use mathlib.Core.List.{◌++◌}
+use lib.ListN.{length, take, drop}
+use Rattle.targets.proofs.Arrays.{remove_at}
 use Rattle.plain.specs.Targets.{most_targets}
 use Rattle.targets.proofs.closed.Given as goal
 

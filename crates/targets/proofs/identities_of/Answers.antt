@@ -1,14 +1,12 @@
--- `identities_of` lays the identities over zeros, one by one.
-use Prim.Native.Nat.{ℕ, ◌-◌, ◌≤◌}
+-- `identities_of` meets its contract.
 use native.Mathlib.Omega.{arith}
-use mathlib.Core.Path.{◌≡◌, ◌∙◌, ap}
-use mathlib.Core.List.{◌++◌, map}
-use lib.Seq.{take_all, get_or-take, length-take-le}
-use lib.ListN.{get_or-map, length, take, drop, replicate, length-replicate}
+use mathlib.Core.Path.{◌≡◌, ◌∙◌}
+use mathlib.Core.List.{map}
+use lib.Seq.{take_all, length-take-le}
+use lib.ListN.{length, take}
 use borrow.Author.Rules.{rules}
-use Rattle.plain.specs.Targets.{most_targets}
 use Rattle.targets.specs.Slots.{identity_of, identities}
-use Rattle.targets.proofs.Arrays.{absent, length-map, laid}
+use Rattle.targets.proofs.Arrays.{length-map}
 use Rattle.targets.proofs.identities_of.Goals as goal
 
 pub returns : goal.returns

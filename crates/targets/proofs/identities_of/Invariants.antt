@@ -1,14 +1,10 @@
 -- `identities_of` lays the identities over zeros, one by one.
-use Prim.Native.Nat.{ℕ, ◌-◌, ◌≤◌}
-use native.Mathlib.Omega.{arith}
-use mathlib.Core.Path.{◌≡◌, ◌∙◌, ap}
+use Prim.Native.Nat.{◌-◌, ◌≤◌}
+use mathlib.Core.Path.{◌≡◌}
 use mathlib.Core.List.{◌++◌, map}
-use lib.Seq.{take_all, get_or-take, length-take-le}
-use lib.ListN.{get_or-map, length, take, drop, replicate, length-replicate}
-use borrow.Author.Rules.{rules}
+use lib.ListN.{length, take, drop, replicate}
 use Rattle.plain.specs.Targets.{most_targets}
-use Rattle.targets.specs.Slots.{identity_of, identities}
-use Rattle.targets.proofs.Arrays.{absent, length-map, laid}
+use Rattle.targets.specs.Slots.{identity_of}
 use Rattle.targets.proofs.identities_of.Given as goal
 
 abbrev pub invariant-loop-i : goal.invariant-loop-i

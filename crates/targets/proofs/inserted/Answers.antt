@@ -1,11 +1,11 @@
--- `inserted` inserts at p. The loop lays the list with t at p over the array, entry by entry.
-use Prim.Native.Nat.{◌+◌, ◌-◌, ◌≤◌, ◌<◌}
+-- `inserted` meets its contract.
+use Prim.Native.Nat.{◌<◌}
 use native.Mathlib.Omega.{arith}
-use mathlib.Core.Path.{◌≡◌, ◌∙◌, ap}
-use mathlib.Core.List.{◌∷◌, ◌++◌}
-use lib.ListN.{length, take, drop, set}
+use mathlib.Core.Path.{◌≡◌}
+use mathlib.Core.List.{◌∷◌}
+use lib.ListN.{length, drop}
 use borrow.Author.Rules.{rules}
-use Rattle.targets.proofs.Arrays.{absent, laid, laid-all, whole, front, length-inserting, inserting, inserted-at}
+use Rattle.targets.proofs.Arrays.{absent, laid, whole, length-inserting, inserting, inserted-at}
 use Rattle.plain.specs.Targets.{most_targets}
 use Rattle.targets.proofs.inserted.Goals as goal
 

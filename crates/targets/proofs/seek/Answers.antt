@@ -1,16 +1,12 @@
--- `seek` finds the place of an identity. The loop has passed the identities below it.
-use Prim.Native.Nat.{ℕ, ◌-◌, ◌≤◌}
+-- `seek` meets its contract.
+use Prim.Native.Nat.{ℕ}
 use native.Mathlib.Omega.{arith}
 use mathlib.Core.List.{List}
-use mathlib.Core.Logic.{inl, inr}
-use mathlib.Core.Path.{◌≡◌, refl, sym, ap, ◌∙◌}
-use lib.ListN.{length, take, drop}
-use lib.Seq.{take_all}
-use borrow.Author.Rules.{rules}
-use Rattle.plain.specs.Targets.{most_targets, at_most}
+use mathlib.Core.Path.{◌≡◌, ap, ◌∙◌}
+use lib.ListN.{take}
+use Rattle.plain.specs.Targets.{at_most}
 use Rattle.targets.specs.Slots.{spot_in}
 use Rattle.targets.proofs.Arrays.{search-on, search-held, search-free, search-out}
-use Rattle.plain.proofs.Listed.{at-most-le}
 use Rattle.targets.proofs.seek.Goals as goal
 
 -- what is searched is what the contract names
@@ -22,13 +18,13 @@ pub returns-then-identity-k-2-clause-value : goal.returns-then-identity-k-2-clau
 returns-then-identity-k-2-clause-value c =
     let l = c.loop-i in
     let a = c.args in search-held a.identity c.if-m-ids.n a.ids.now l.i l.invariant.2 l.invariant.4 (omega arith) c.if-identity-k.true c.if-identity-k-2.true
-          ∙ searched a.identity _ c.if-m-ids.n a.count a.ids.now l.invariant.3 c.least-m.ensures
+    ∙ searched a.identity _ c.if-m-ids.n a.count a.ids.now l.invariant.3 c.least-m.ensures
 
 pub returns-then-identity-k-clause-value : goal.returns-then-identity-k-clause-value
 returns-then-identity-k-clause-value c =
     let l = c.loop-i in
     let a = c.args in search-free a.identity c.if-m-ids.n a.ids.now l.i l.invariant.2 l.invariant.4 (omega arith) c.if-identity-k.true c.if-identity-k-2.false
-          ∙ searched a.identity _ c.if-m-ids.n a.count a.ids.now l.invariant.3 c.least-m.ensures
+    ∙ searched a.identity _ c.if-m-ids.n a.count a.ids.now l.invariant.3 c.least-m.ensures
 
 pub loop-i-preserved : goal.loop-i-preserved
 loop-i-preserved c =
@@ -40,4 +36,4 @@ pub returns-clause-value : goal.returns-clause-value
 returns-clause-value c =
     let l = c.loop-i in
     let a = c.args in search-out a.identity c.if-m-ids.n a.ids.now l.i l.invariant.2 l.invariant.4 (omega arith)
-          ∙ searched a.identity _ c.if-m-ids.n a.count a.ids.now l.invariant.3 c.least-m.ensures
+    ∙ searched a.identity _ c.if-m-ids.n a.count a.ids.now l.invariant.3 c.least-m.ensures

@@ -1,7 +1,7 @@
--- `columns_of` lays the parts of the positions in one array, target by target.
-use Prim.Native.Nat.{ℕ, ◌+◌, ◌*◌, ◌-◌, ◌≤◌, ◌<◌}
+-- `columns_of` meets its contract.
+use Prim.Native.Nat.{ℕ, ◌+◌, ◌*◌, ◌<◌}
 use native.Mathlib.Omega.{arith}
-use mathlib.Core.Path.{◌≡◌, refl, sym, ap, ◌∙◌, subst}
+use mathlib.Core.Path.{◌≡◌, refl, sym, ap, ◌∙◌}
 use mathlib.Core.List.{List, map}
 use lib.Ieee.{Float, nan}
 use lib.ListN.{get_or-map, length, get_or, set, length-set}
@@ -48,11 +48,10 @@ columns-on ts n cs v below full e so =
     )
 
 pub loop-i-preserved : goal.loop-i-preserved
-loop-i-preserved c =
-    (
-      search rules,
-      search rules,
-      simp length-set c.loop-i.invariant.2,
-      columns-on c.args.entries c.loop-i.i c.loop-i.cs c.vector_of-v.result (omega arith) (omega arith)
-          c.vector_of-v.ensures c.loop-i.invariant.3,
-    )
+loop-i-preserved c = (
+  search rules,
+  search rules,
+  simp length-set c.loop-i.invariant.2,
+  columns-on c.args.entries c.loop-i.i c.loop-i.cs c.vector_of-v.result (omega arith) (omega arith)
+      c.vector_of-v.ensures c.loop-i.invariant.3,
+)

@@ -1,18 +1,9 @@
 -- `columns_of` lays the parts of the positions in one array, target by target.
-use Prim.Native.Nat.{ℕ, ◌+◌, ◌*◌, ◌-◌, ◌≤◌, ◌<◌}
-use native.Mathlib.Omega.{arith}
-use mathlib.Core.Path.{◌≡◌, refl, sym, ap, ◌∙◌, subst}
-use mathlib.Core.List.{List, map}
-use lib.Ieee.{Float, nan}
-use lib.ListN.{get_or-map, length, get_or, set, length-set}
-use lib.Seq.{get_or-set_same, get_or-set_other}
-use borrow.Author.Count.{below_more}
-use borrow.Author.Rules.{rules}
-use Rattle.vectors.specs.declared.vec3.Vec3.{Vec3}
+use Prim.Native.Nat.{◌*◌, ◌-◌, ◌≤◌}
+use mathlib.Core.Path.{◌≡◌}
+use lib.ListN.{length}
 use Rattle.plain.specs.Targets.{most_targets}
-use Rattle.plain.specs.declared.targets.Target.{Target}
-use Rattle.targets.specs.Asking.{vector_of, Column, Columns}
-use Rattle.targets.proofs.Arrays.{absent}
+use Rattle.targets.specs.Asking.{Columns}
 use Rattle.targets.proofs.asking.columns_of.Given as goal
 
 abbrev pub invariant-loop-i : goal.invariant-loop-i

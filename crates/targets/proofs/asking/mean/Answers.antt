@@ -1,7 +1,6 @@
 -- `mean` meets its contract. The targets that stand are the first of the array, and their parts are those of their positions.
 use mathlib.Core.List.{List, map}
 use mathlib.Core.Path.{ap, ◌∙◌}
-use borrow.Author.Rules.{rules}
 use Rattle.means.specs.Mean.{mean_of}
 use Rattle.plain.specs.Code.{plain}
 use Rattle.plain.specs.Asking.{position_of, mean}

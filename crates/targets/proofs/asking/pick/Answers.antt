@@ -1,6 +1,5 @@
 -- `pick` meets its contract. The least of the meeting times is a pick.
 use mathlib.Core.Path.{sym, ap, ◌∙◌}
-use borrow.Author.Rules.{rules}
 use Rattle.means.specs.Mean.{fold}
 use Rattle.plain.specs.Code.{plain}
 use Rattle.targets.specs.Asking.{better}
@@ -8,7 +7,6 @@ use Rattle.plain.specs.Targets.{listed}
 use Rattle.targets.specs.declared.asking.Best.TheVariants.{Missing}
 use Rattle.targets.proofs.Picks.{picked_none, picked-one}
 use Rattle.targets.proofs.Slots.{listed-is}
-use Rattle.plain.proofs.Listed.{at-most-le}
 use Rattle.targets.proofs.asking.pick.Goals as goal
 
 pub returns-in-Missing : goal.returns-in-Missing

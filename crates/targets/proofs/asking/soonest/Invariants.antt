@@ -1,16 +1,10 @@
 -- `soonest` meets its contract. The loop has folded the targets passed.
-use Prim.Native.Nat.{◌+◌, ◌-◌, ◌≤◌, ◌<◌}
-use native.Mathlib.Omega.{arith}
-use mathlib.Core.Path.{◌≡◌, sym, ap, ◌∙◌}
+use Prim.Native.Nat.{◌-◌, ◌≤◌}
+use mathlib.Core.Path.{◌≡◌}
 use lib.ListN.{length, take, drop}
-use lib.Seq.{get_or-take, length-take-le}
-use borrow.Author.Rules.{rules}
 use Rattle.means.specs.Mean.{fold}
-use Rattle.means.proofs.Entries.{fold_on, fold_out}
-use Rattle.targets.specs.declared.asking.Best.{Best}
 use Rattle.targets.specs.declared.asking.Best.TheVariants.{Missing}
 use Rattle.targets.specs.Asking.{better}
-use Rattle.targets.proofs.Arrays.{absent}
 use Rattle.plain.specs.Targets.{most_targets}
 use Rattle.targets.proofs.asking.soonest.Given as goal
 
