@@ -1,6 +1,5 @@
 -- `finite` meets its contract. A magnitude is below infinity exactly where the float is finite.
 use lib.Ieee.{div, of_bits}
-use Rattle.std.proofs.Common.{rules}
 use Rattle.questions.proofs.Finiteness.{below-infinity}
 use Rattle.questions.proofs.finite.Goals as goal
 

@@ -2,7 +2,6 @@
 use mathlib.Core.Path.{refl}
 use Rattle.plain.specs.Board.{answer}
 use Rattle.board.specs.Change.{RightAnswer}
-use borrow.Author.Rules.{rules}
 use Rattle.board.proofs.board.answer_of.Goals as goal
 
 pub returns-in-Report : goal.returns-in-Report

@@ -1,6 +1,5 @@
 -- `change_of` meets its contract. Each call has its law.
 use Rattle.board.proofs.Changes.{report-changes, withdraw-removes, withdraw-stays, own-sweeps, track-sweeps, solve-stays, solve-changes}
-use borrow.Author.Rules.{rules}
 use Rattle.board.proofs.board.change_of.Goals as goal
 
 pub returns-in-Report : goal.returns-in-Report

@@ -1,6 +1,5 @@
 -- `fresh` meets its contract. The board stands for the fresh plain board, and demand 3 holds of every list of calls from it.
 use mathlib.Core.Path.{◌≡◌, ◌∙◌}
-use borrow.Author.Rules.{rules}
 use Rattle.plain.specs.declared.state.Tracked.TheVariants.{Nowhere}
 use Rattle.plain.specs.declared.state.Own.TheVariants.{Nobody}
 use Rattle.plain.specs.declared.state.Board.{Board}

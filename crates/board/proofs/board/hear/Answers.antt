@@ -5,7 +5,6 @@ use Prim.Native.Nat.{◌<◌}
 use mathlib.Core.Bool.{false≢true}
 use mathlib.Core.Path.{◌≡◌, refl, sym, subst, ◌∙◌}
 use borrow.Author.Tests.{not-true, not-false}
-use borrow.Author.Rules.{rules}
 use Rattle.targets.specs.declared.Change.{Change}
 use Rattle.plain.specs.Targets.{most_targets, at_most, listed}
 use Rattle.plain.specs.Code.{plain}

@@ -1,13 +1,9 @@
 -- `seek_in` meets its contract. The loop has passed the entries whose identities are below the one sought.
 use Prim.Native.Nat.{◌-◌, ◌≤◌}
-use native.Mathlib.Omega.{arith}
-use mathlib.Core.Path.{◌≡◌, sym}
+use mathlib.Core.Path.{◌≡◌}
 use lib.ListN.{length, take, drop}
-use borrow.Author.Rules.{rules}
 use Rattle.plain.specs.Targets.{most_targets}
 use Rattle.targets.specs.Slots.{spot_from}
-use Rattle.targets.proofs.Slots.{found_at, found_none}
-use Rattle.board.proofs.Changes.{entry-below, entry-same, entry-above, entry-none}
 use Rattle.board.proofs.board.seek_in.Given as goal
 
 abbrev pub invariant-loop-i : goal.invariant-loop-i

@@ -1,5 +1,4 @@
 -- `at_report` meets its contract. The questions before the last decide, and a held identity has its place.
-use borrow.Author.Rules.{rules}
 use borrow.Author.Tests.{not-true, not-false}
 use Prim.Native.Nat.{ℕ}
 use Rattle.plain.specs.declared.call.Answer.{Answer}
@@ -9,7 +8,7 @@ use mathlib.Core.Path.{◌≡◌, sym, ap, ◌∙◌}
 use Rattle.plain.specs.declared.call.Answer.TheVariants.{Done}
 use Rattle.board.specs.declared.glance.Hint.TheVariants.{Stays}
 use Rattle.plain.specs.Questions.{ask, ask_fix, identity_asked}
-use Rattle.board.specs.Glance.{put_at, at_report}
+use Rattle.board.specs.Glance.{at_report}
 use Rattle.plain.specs.History.{accepts}
 use Rattle.board.proofs.Glances.{refused-stays, report-goes}
 use Rattle.board.proofs.glance.at_report.Goals as goal

@@ -1,5 +1,4 @@
 -- `at_setting` meets its contract. What is refused stays, what is done sweeps.
-use borrow.Author.Rules.{rules}
 use borrow.Author.Tests.{not-true, not-false}
 use mathlib.Core.Path.{sym, ◌∙◌}
 use Rattle.board.specs.Glance.{at_setting}

@@ -1,6 +1,5 @@
 -- `glance` meets its contract, call by call.
-use borrow.Author.Rules.{rules}
-use mathlib.Core.Path.{refl, ◌∙◌}
+use mathlib.Core.Path.{◌∙◌}
 use Rattle.board.specs.Glance.{glance}
 use Rattle.board.proofs.glance.glance.Goals as goal
 

@@ -1,9 +1,7 @@
 -- The invariant: i is past bytes with no newline.
 use Prim.Native.Nat.{◌-◌}
-use native.Mathlib.Omega.{arith}
 use lib.ListN.{length}
 use Rattle.frames.specs.Line.{Passes}
-use Rattle.frames.proofs.Spans.{further-one}
 use Rattle.frames.proofs.line.end_of_line.Given as goal
 
 abbrev pub invariant-loop-i : goal.invariant-loop-i

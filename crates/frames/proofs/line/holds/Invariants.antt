@@ -1,11 +1,6 @@
 -- The invariant: where no newline was met there is none among the first i bytes.
 use Prim.Native.Nat.{◌-◌, ◌≤◌}
-use mathlib.Core.Path.{◌≡◌}
-use native.Mathlib.Omega.{arith}
-use borrow.Author.Rules.{rules}
-use Rattle.unhex.proofs.Read.{part_length}
 use Rattle.frames.specs.Line.{Holds}
-use Rattle.frames.proofs.Spans.{holds_on, part_at}
 use Rattle.frames.proofs.line.holds.Given as goal
 
 abbrev pub invariant-loop-i : goal.invariant-loop-i

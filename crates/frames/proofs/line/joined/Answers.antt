@@ -1,11 +1,11 @@
--- The invariant: the first i bytes of the part are copied after the first n of the line.
-use Prim.Native.Nat.{◌+◌, ◌-◌, ◌≤◌, min}
+-- `joined` meets its contract.
+use Prim.Native.Nat.{◌+◌}
 use mathlib.Core.Path.{◌≡◌, ◌∙◌}
 use native.Mathlib.Numerals.{add-one}
 use native.Mathlib.Omega.{arith}
 use lib.ListN.{length}
-use lib.Seq.{paste, paste-zero, paste-suc, length-paste}
-use Rattle.frames.specs.Line.{kept, least}
+use lib.Seq.{paste-suc, length-paste}
+use Rattle.frames.specs.Line.{least}
 use Rattle.frames.proofs.Spans.{least-is, kept-text}
 use Rattle.frames.proofs.line.joined.Goals as goal
 

@@ -1,7 +1,6 @@
 -- Digits alone as far as a newline are the line, and any other line is found by the search.
 use mathlib.Core.Path.{sym, ◌∙◌}
 use native.Mathlib.Omega.{arith}
-use borrow.Author.Rules.{rules}
 use Rattle.frames.proofs.Spans.{line-of-digits}
 use Rattle.frames.proofs.line.line_at.Goals as goal
 

@@ -1,5 +1,4 @@
 -- A step of the session, then its reply.
-use borrow.Author.Rules.{rules}
 use Rattle.frames.proofs.Turns.{answering}
 use Rattle.frames.proofs.stream.answer.Goals as goal
 

@@ -1,6 +1,5 @@
 -- Nothing has come, and whatever pieces come, they are answered as the whole.
 use Rattle.frames.proofs.Pieces.{begun-answers}
-use borrow.Author.Rules.{rules}
 use Rattle.frames.proofs.stream.begin.Goals as goal
 
 pub returns : goal.returns

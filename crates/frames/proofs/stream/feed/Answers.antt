@@ -1,8 +1,6 @@
 -- The line that has begun, and then the lines after it.
-use mathlib.Core.Path.{refl}
-use borrow.Author.Rules.{rules}
 use native.Mathlib.Omega.{arith}
-use Rattle.frames.proofs.Feeds.{going-feeds, used-within, next-within, feeding-then}
+use Rattle.frames.proofs.Feeds.{used-within, feeding-then}
 use Rattle.frames.proofs.stream.feed.Goals as goal
 
 pub overflow_add-used : goal.overflow_add-used

@@ -1,10 +1,8 @@
 -- A line that has begun is a line.
-use mathlib.Core.Path.{◌≡◌, sym}
-use native.Mathlib.Omega.{arith}
+use mathlib.Core.Path.{◌≡◌}
 use lib.ListN.{length}
-use lib.Seq.{length-take-le}
 use Rattle.frames.specs.Line.{kept}
-use Rattle.frames.proofs.Turns.{least_fits, finished-none, finished-line, nothing-done}
+use Rattle.frames.proofs.Turns.{finished-none, finished-line, nothing-done}
 use borrow.Author.Rules.{rules}
 use Rattle.frames.proofs.stream.finish.Goals as goal
 

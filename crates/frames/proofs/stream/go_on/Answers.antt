@@ -1,15 +1,13 @@
 -- The line that has begun ends in the piece and is answered, or what came of it is kept.
 use borrow.Author.Rules.{rules}
-use Prim.Native.Nat.{◌+◌}
 use mathlib.Core.Path.{◌≡◌, refl, sym, ap, ◌∙◌}
-use native.Mathlib.Omega.{arith}
 use lib.ListN.{length}
-use lib.Seq.{length-take-le, take-nil}
+use lib.Seq.{take-nil}
 use Rattle.wire.specs.Frame.{frame_of}
 use Rattle.frames.specs.Line.{kept}
 use Rattle.frames.proofs.Feeds.{begun-passed, begun_kept, going_on, waits-room, waits-not}
 use Rattle.frames.proofs.Pieces.{frame-cut}
-use Rattle.frames.proofs.Turns.{passed-whole, least_fits}
+use Rattle.frames.proofs.Turns.{passed-whole}
 use Rattle.frames.proofs.stream.go_on.Goals as goal
 
 pub returns-then-waits : goal.returns-then-waits

@@ -1,5 +1,4 @@
--- Line by line: what stands on the page is the text of the lines passed. A line is answered by a quick look, or by the whole session.
-use borrow.Author.Rules.{rules}
+-- `lines` meets its contract.
 use mathlib.Core.Bool.{Bool, false}
 use mathlib.Core.List.{List, []}
 use Prim.Native.Nat.{ℕ, ◌+◌, ◌-◌, ◌<◌, ◌≤◌}
@@ -11,7 +10,6 @@ use Rattle.board.specs.Glance.{setting_of, Under}
 use Rattle.board.specs.declared.glance.Setting.{Setting}
 use Rattle.plain.specs.declared.targets.Target.{Target}
 use Rattle.frames.specs.Line.{least}
-use Rattle.sessions.specs.Session.{plain_of}
 use Rattle.sessions.specs.Quick.{session_of, Quickly}
 use Rattle.frames.specs.Stream.{Model, room}
 use Rattle.frames.specs.Whole.{newline}

@@ -1,25 +1,12 @@
 -- Line by line: what stands on the page is the text of the lines passed. A line is answered by a quick look, or by the whole session.
-use borrow.Author.Rules.{rules}
-use mathlib.Core.Bool.{Bool}
-use mathlib.Core.List.{List, []}
-use Prim.Native.Nat.{ℕ, ◌+◌, ◌-◌, ◌<◌, ◌≤◌}
-use mathlib.Core.Logic.{inl, inr}
-use mathlib.Core.Path.{◌≡◌, sym, ap, ◌∙◌, subst}
-use native.Mathlib.Omega.{arith}
-use lib.ListN.{length, take, drop, get_or, length-drop}
-use lib.Seq.{length-take-le}
-use Rattle.board.specs.Glance.{setting_of, Under}
-use Rattle.board.specs.declared.glance.Setting.{Setting}
-use Rattle.plain.specs.declared.targets.Target.{Target}
-use Rattle.frames.specs.Line.{least}
+use mathlib.Core.List.{[]}
+use Prim.Native.Nat.{◌-◌}
+use mathlib.Core.Path.{◌≡◌}
+use lib.ListN.{length}
+use Rattle.board.specs.Glance.{Under}
 use Rattle.sessions.specs.Session.{plain_of}
-use Rattle.sessions.specs.Quick.{session_of, Quickly}
-use Rattle.frames.specs.Stream.{Model, room}
-use Rattle.frames.specs.Whole.{newline}
-use Rattle.frames.proofs.Feeds.{opening-none, feeding, passed-fresh, ends_same, waits-room, waits-not}
-use Rattle.wire.proofs.Lines.{known-frame}
-use Rattle.sessions.proofs.Quicks.{session-parts, under-own, ids-long, quickly}
-use Rattle.frames.proofs.Turns.{Passed, passed-bytes, passed-step, passed-whole, answering_by, passed-from}
+use Rattle.sessions.specs.Quick.{session_of}
+use Rattle.frames.proofs.Turns.{Passed}
 use Rattle.plain.specs.Targets.{most_targets}
 use Rattle.frames.proofs.stream.lines.Given as goal
 

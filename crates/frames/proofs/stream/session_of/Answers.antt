@@ -1,5 +1,4 @@
 -- `session_of` meets its contract.
-use borrow.Author.Rules.{rules}
 use Rattle.sessions.specs.Quick.{session_of}
 use Rattle.frames.proofs.stream.session_of.Goals as goal
 

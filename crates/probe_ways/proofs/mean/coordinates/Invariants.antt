@@ -1,6 +1,5 @@
 -- `means::coordinates` is safe and ends: k stays within the array.
 use Prim.Native.Nat.{◌-◌, ◌≤◌}
-use native.Mathlib.Omega.{arith}
 use Rattle.probe_ways.proofs.mean.coordinates.Given as goal
 
 abbrev pub invariant-loop-k : goal.invariant-loop-k

@@ -1,5 +1,4 @@
 -- `raise` meets its contract. Three sums modulo 2^32 are one.
-use Rattle.std.proofs.Common.{rules}
 use Rattle.plain.specs.Line.{counts}
 use Rattle.questions.proofs.Wrapping.{thrice}
 use Rattle.questions.proofs.line.raise.Goals as goal

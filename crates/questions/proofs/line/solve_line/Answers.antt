@@ -1,5 +1,4 @@
 -- `solve_line` meets its contract. Each part of the line is what its function ensures.
-use Rattle.std.proofs.Common.{rules}
 use Rattle.plain.specs.Line.{solve_line}
 use Rattle.questions.proofs.line.solve_line.Goals as goal
 

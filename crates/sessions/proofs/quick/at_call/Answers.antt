@@ -1,6 +1,5 @@
 -- A call, by the glance at the board.
-use borrow.Author.Rules.{rules}
-use mathlib.Core.Path.{◌≡◌, refl, ap, ◌∙◌}
+use mathlib.Core.Path.{refl, ap, ◌∙◌}
 use Rattle.sessions.specs.declared.quick.Quick.TheVariants.{Stays}
 use Rattle.sessions.specs.Quick.{hinted, at_call}
 use Rattle.sessions.proofs.Quicks.{call-goes}

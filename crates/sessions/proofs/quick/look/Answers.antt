@@ -1,6 +1,5 @@
 -- A frame, kind by kind.
-use borrow.Author.Rules.{rules}
-use mathlib.Core.Path.{refl, ap, ◌∙◌}
+use mathlib.Core.Path.{ap, ◌∙◌}
 use Rattle.sessions.specs.declared.quick.Quick.TheVariants.{Stays}
 use Rattle.sessions.specs.Quick.{look}
 use Rattle.sessions.proofs.quick.look.Goals as goal

@@ -2,7 +2,6 @@
 use mathlib.Core.Path.{◌∙◌, ap}
 use Rattle.sessions.specs.Session.{reply_of, if_started, pick_told}
 use Rattle.sessions.proofs.Sessions.{opened, closed}
-use borrow.Author.Rules.{rules}
 use Rattle.sessions.proofs.session.ask_pick.Goals as goal
 
 pub returns-then-not-started : goal.returns-then-not-started

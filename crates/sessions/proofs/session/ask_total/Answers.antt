@@ -1,7 +1,6 @@
 -- The total of a board, or number 1 where there is none.
 use Rattle.sessions.specs.Session.{reply_of, if_started}
 use Rattle.sessions.proofs.Sessions.{opened, closed}
-use borrow.Author.Rules.{rules}
 use Rattle.sessions.proofs.session.ask_total.Goals as goal
 
 pub returns-then-not-started : goal.returns-then-not-started

@@ -1,7 +1,6 @@
 -- A session with no board.
 use mathlib.Core.Path.{refl}
 use Rattle.sessions.specs.Session.{plain_of}
-use borrow.Author.Rules.{rules}
 use Rattle.sessions.proofs.session.begin.Goals as goal
 
 pub returns : goal.returns

@@ -1,6 +1,5 @@
 -- The reply to each mean.
 use Rattle.sessions.specs.Session.{mean_told}
-use borrow.Author.Rules.{rules}
 use Rattle.sessions.proofs.session.mean_told.Goals as goal
 
 pub returns-in-Position : goal.returns-in-Position

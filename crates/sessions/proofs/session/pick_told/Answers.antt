@@ -1,6 +1,5 @@
 -- The reply to each choice.
 use Rattle.sessions.specs.Session.{pick_told}
-use borrow.Author.Rules.{rules}
 use Rattle.sessions.proofs.session.pick_told.Goals as goal
 
 pub returns-in-Target : goal.returns-in-Target

@@ -1,6 +1,5 @@
 -- A fresh board where the radius is accepted, and what was there where not.
 use Rattle.sessions.proofs.Sessions.{started-done, started-solved, stayed}
-use borrow.Author.Rules.{rules}
 use Rattle.sessions.proofs.session.start.Goals as goal
 
 pub returns-in-Done : goal.returns-in-Done

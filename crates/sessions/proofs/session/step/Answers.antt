@@ -1,10 +1,8 @@
 -- Each frame by its kind.
-use mathlib.Core.Path.{refl, sym, subst}
-use Rattle.wire.specs.declared.frame.Frame.{Frame}
+use mathlib.Core.Path.{refl}
 use Rattle.wire.specs.declared.frame.Frame.TheVariants.{Mean, Pick, Total}
-use Rattle.sessions.specs.Session.{next, Stepping}
+use Rattle.sessions.specs.Session.{next}
 use Rattle.sessions.proofs.Sessions.{asked, no-frame}
-use borrow.Author.Rules.{rules}
 use Rattle.sessions.proofs.session.step.Goals as goal
 
 pub returns-in-Mean : goal.returns-in-Mean

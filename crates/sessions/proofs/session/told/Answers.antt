@@ -1,6 +1,5 @@
 -- The reply to each answer.
 use Rattle.sessions.specs.Session.{told}
-use borrow.Author.Rules.{rules}
 use Rattle.sessions.proofs.session.told.Goals as goal
 
 pub returns-in-Done : goal.returns-in-Done

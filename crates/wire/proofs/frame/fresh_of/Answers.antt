@@ -1,7 +1,6 @@
 -- Kind 00 has 18 digits.
 use borrow.Author.Tests.{eq-eqb, ne_eqb}
 use Rattle.wire.specs.Frame.{framed}
-use borrow.Author.Rules.{rules}
 use Rattle.wire.proofs.frame.fresh_of.Goals as goal
 
 pub returns-then-s-eq-FRESH : goal.returns-then-s-eq-FRESH

@@ -1,7 +1,6 @@
 -- Kind 03 has 82 digits.
 use borrow.Author.Tests.{eq-eqb, ne_eqb}
 use Rattle.wire.specs.Frame.{framed}
-use borrow.Author.Rules.{rules}
 use Rattle.wire.proofs.frame.own_ship_of.Goals as goal
 
 pub returns-then-s-eq-OWN_SHIP : goal.returns-then-s-eq-OWN_SHIP

@@ -1,5 +1,5 @@
 -- A line longer than any frame is none, and is not looked through.
-use mathlib.Core.Path.{refl, sym, ◌∙◌}
+use mathlib.Core.Path.{sym, ◌∙◌}
 use Rattle.wire.proofs.Lines.{long-is-no-frame, known-frame}
 use Rattle.wire.proofs.frame.read.Goals as goal
 

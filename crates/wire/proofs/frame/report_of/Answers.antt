@@ -1,7 +1,6 @@
 -- Kind 01 has 86 digits.
 use borrow.Author.Tests.{eq-eqb, ne_eqb}
 use Rattle.wire.specs.Frame.{framed}
-use borrow.Author.Rules.{rules}
 use Rattle.wire.proofs.frame.report_of.Goals as goal
 
 pub returns-then-s-eq-REPORT : goal.returns-then-s-eq-REPORT

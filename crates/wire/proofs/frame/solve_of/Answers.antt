@@ -1,7 +1,6 @@
 -- Kind 05 has 6 digits.
 use borrow.Author.Tests.{eq-eqb, ne_eqb}
 use Rattle.wire.specs.Frame.{framed}
-use borrow.Author.Rules.{rules}
 use Rattle.wire.proofs.frame.solve_of.Goals as goal
 
 pub returns-then-s-eq-NAMED : goal.returns-then-s-eq-NAMED

@@ -1,7 +1,6 @@
 -- Kind 04 has 98 digits.
 use borrow.Author.Tests.{eq-eqb, ne_eqb}
 use Rattle.wire.specs.Frame.{framed}
-use borrow.Author.Rules.{rules}
 use Rattle.wire.proofs.frame.track_of.Goals as goal
 
 pub returns-then-s-eq-MOST_FRAME_DIGITS : goal.returns-then-s-eq-MOST_FRAME_DIGITS

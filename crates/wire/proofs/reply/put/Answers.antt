@@ -1,7 +1,6 @@
 -- The digits where there is room, and nothing where not.
 use native.Mathlib.Omega.{arith}
 use Rattle.hex_digits.proofs.Write.{put-stays, put-fits}
-use borrow.Author.Rules.{rules}
 use Rattle.wire.proofs.reply.put.Goals as goal
 
 pub returns-then-at-out : goal.returns-then-at-out

@@ -1,6 +1,5 @@
 -- The digits of the float's bits.
 use Rattle.hex_digits.proofs.Write.{number-wrote}
-use borrow.Author.Rules.{rules}
 use Rattle.wire.proofs.reply.put_float.Goals as goal
 
 pub returns : goal.returns

@@ -1,7 +1,6 @@
 -- The fields of a line, one after another.
 use Rattle.hex_digits.proofs.Write.{then}
 use Rattle.wire.specs.Reply.{line_digits}
-use borrow.Author.Rules.{rules}
 use Rattle.wire.proofs.reply.put_line.Goals as goal
 
 pub returns : goal.returns

@@ -3,7 +3,6 @@ use native.Mathlib.Omega.{arith}
 use Rattle.hex_digits.proofs.Write.{number-wrote}
 use Rattle.wire.specs.Reply.{outcome_digits}
 use Rattle.wire.proofs.Sizes.{more}
-use borrow.Author.Rules.{rules}
 use Rattle.wire.proofs.reply.put_outcome.Goals as goal
 
 pub returns : goal.returns

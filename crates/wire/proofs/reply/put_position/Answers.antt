@@ -1,7 +1,6 @@
 -- The three parts, one after another.
 use Rattle.hex_digits.proofs.Write.{then}
 use Rattle.wire.specs.Reply.{position_digits}
-use borrow.Author.Rules.{rules}
 use Rattle.wire.proofs.reply.put_position.Goals as goal
 
 pub returns : goal.returns

@@ -1,6 +1,5 @@
 -- The digits of the side's number.
 use Rattle.hex_digits.proofs.Write.{number-wrote}
-use borrow.Author.Rules.{rules}
 use Rattle.wire.proofs.reply.put_side.Goals as goal
 
 pub returns : goal.returns

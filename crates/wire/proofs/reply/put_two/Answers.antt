@@ -2,7 +2,6 @@
 use native.Mathlib.Omega.{arith}
 use Rattle.hex_digits.proofs.Write.{number-wrote}
 use Rattle.wire.proofs.Sizes.{more}
-use borrow.Author.Rules.{rules}
 use Rattle.wire.proofs.reply.put_two.Goals as goal
 
 pub returns : goal.returns

@@ -1,7 +1,6 @@
 -- The digits of each reply, counted.
 use mathlib.Core.Path.{sym, ap, ◌∙◌}
 use Rattle.wire.proofs.Sizes.{size_of, size_is}
-use borrow.Author.Rules.{rules}
 use Rattle.wire.proofs.reply.size.Goals as goal
 
 pub returns-in-Done : goal.returns-in-Done

@@ -4,7 +4,6 @@ use mathlib.Core.Path.{sym, ap}
 use Rattle.hex_digits.proofs.Write.{then, as-length}
 use Rattle.wire.specs.Reply.{reply_digits}
 use Rattle.wire.proofs.Sizes.{sized, more}
-use borrow.Author.Rules.{rules}
 use Rattle.wire.proofs.reply.write.Goals as goal
 
 pub put_two-requires : goal.put_two-requires
