@@ -4,6 +4,10 @@
 mod inputs;
 mod turns;
 
+ghost use Rattle.std.specs.Prelude.{◌≤◌, length};
+
+use std::io::Read;
+
 // The digits of a line: two for the call, eight for how many times; then a newline.
 const CALL: usize = 2;
 
@@ -11,21 +15,39 @@ const COUNT: usize = 8;
 
 const LINE: usize = 11;
 
+// Room for all that is read.
+const TEXT: usize = 4096;
+
 // The digest of each whole line.
-fn answer(text: &[u8]) {
+fn answer<P: Print>(out: &P, text: &[u8]) {
     let mut at = 0;
     while text.len() - at >= LINE {
         let call = hex_digits::number_at(text, at, CALL);
         let count = hex_digits::number_at(text, at + CALL, COUNT);
         let run = turns::turns(turns::full(), call, count);
-        io::print_hex(1, turns::digest(run), 16);
-        io::write_all(1, b"\n");
+        let digest = turns::digest(run);
+        let _ = println!(out; "{digest:016x}");
         at += LINE;
     }
 }
 
-fn main() {
-    let mut text = io::buffer();
-    let n = io::read_full(0, &mut text);
-    answer(&text[..n]);
+// Reads until the text is full, the input ends or a read fails. How many bytes came?
+fn read_full<R: Read>(input: &mut R, text: &mut [u8]) -> usize
+    ensures { result ≤ length text.new }
+{
+    let mut done = 0;
+    while done < text.len() {
+        let got = input.read(&mut text[done..]).unwrap_or(0);
+        if got == 0 {
+            break;
+        }
+        done += got;
+    }
+    done
+}
+
+fn main(rt: HostRuntime) {
+    let mut text = [0u8; TEXT];
+    let n = read_full(&mut rt.stdin(), &mut text);
+    answer(&rt.stdout(), &text[..n]);
 }

@@ -1,15 +1,22 @@
 // Reads frames on standard input and writes the reply to each on standard output, until the input ends or a read or a write fails.
 #![tactic(auto)]
 
-ghost use Rattle.std.specs.Prelude.{◌≤◌, length};
+ghost use Rattle.std.specs.Prelude.{◌≡◌, ◌≤◌, length};
 ghost use Rattle.frames.specs.Stream.{room};
-ghost use Rattle.plot.specs.Turn.{Poured, Turning};
+ghost use Rattle.plot.specs.Turn.{count_of, Poured, Turning};
 
 use console::Way;
 use frames::stream::Stream;
+use std::io;
+use std::io::{Read, Write};
 
 // How much is read at once. A larger piece than a pipe holds: a stream is handed on by value with each.
 const PIECE: usize = 262_144;
+
+// How much is written at once, and the room for the reply to a last line that no newline ends.
+const PAGE: usize = 65_536;
+
+const LAST_PAGE: usize = 4_096;
 
 // What a turn leaves: the stream, and how to go on.
 #[derive(Clone, Copy)]
@@ -19,7 +26,7 @@ struct Turned {
 }
 
 // Answers a piece of the input, page by page, and writes each page at once.
-fn pour(s: Stream, xs: &[u8], page: &mut [u8]) -> Turned
+fn pour<W: Write>(out: &mut W, s: Stream, xs: &[u8], page: &mut [u8]) -> Turned
     requires { room ≤ length page.old }
     ensures { Poured s xs.now result }
 {
@@ -31,10 +38,10 @@ fn pour(s: Stream, xs: &[u8], page: &mut [u8]) -> Turned
         stream = next;
         i += fed.used;
         let n = fed.next;
-        if !io::write_all(1, &page[..n]) {
+        if let Err(error) = out.write_all(&page[..n]) {
             return Turned {
                 stream,
-                way: Way::WriteFailed,
+                way: Way::WriteFailed(error),
             };
         }
     }
@@ -44,49 +51,65 @@ fn pour(s: Stream, xs: &[u8], page: &mut [u8]) -> Turned
     }
 }
 
-// The answer to a read of so many bytes.
-fn answer(s: Stream, got: isize, piece: &[u8], page: &mut [u8]) -> Turned
+// How many bytes of the piece a read gave: none where it failed, and never more than there are.
+fn count(got: io::Result<usize>, piece: &[u8]) -> usize
+    ensures within { result ≤ length piece.now }
+    ensures value { result ≡ count_of got (length piece.now) }
+{
+    match got {
+        Ok(n) => n.min(piece.len()),
+        Err(_) => 0,
+    }
+}
+
+// The answer to a read that gave so many bytes, or failed.
+fn answer<W: Write>(
+    out: &mut W,
+    s: Stream,
+    got: io::Result<usize>,
+    piece: &[u8],
+    page: &mut [u8],
+) -> Turned
     requires { room ≤ length page.old }
     ensures { Turning s got piece.now result }
 {
     let way = console::way_of(got);
     match way {
         Way::On => {
-            let n = io::count(got, piece);
-            pour(s, &piece[..n], page)
+            let n = count(got, piece);
+            pour(out, s, &piece[..n], page)
         }
         _ => Turned { stream: s, way },
     }
 }
 
 // The end of the input: the reply to a line that has begun.
-fn last(s: Stream) -> Way {
-    let mut page = io::buffer();
+fn last<W: Write>(out: &mut W, s: Stream) -> Way {
+    let mut page = [0u8; LAST_PAGE];
     let n = frames::stream::finish(s, &mut page);
-    if io::write_all(1, &page[..n]) {
-        Way::Ended
-    } else {
-        Way::WriteFailed
+    match out.write_all(&page[..n]) {
+        Ok(()) => Way::Ended,
+        Err(error) => Way::WriteFailed(error),
     }
 }
 
 // Answers the whole input, and says how that ended. Each turn takes a byte at least, so 2^64 - 1 turns are more than any input has.
-fn run() -> Way {
+fn run<R: Read, W: Write>(input: &mut R, out: &mut W) -> Way {
     let mut stream = frames::stream::begin();
     let mut piece = [0u8; PIECE];
-    let mut page = io::large_buffer();
+    let mut page = [0u8; PAGE];
     let mut turns = u64::MAX;
     while turns > 0 {
         turns -= 1;
-        let got = libc::read(0, &mut piece);
-        let turned = answer(stream, got, &piece, &mut page);
+        let got = input.read(&mut piece);
+        let turned = answer(out, stream, got, &piece, &mut page);
         let next = turned.stream;
         stream = next;
         let way = turned.way;
         match way {
             Way::On => {}
             Way::Ended => {
-                return last(stream);
+                return last(out, stream);
             }
             _ => {
                 return way;
@@ -97,16 +120,18 @@ fn run() -> Way {
 }
 
 // With any argument it says how it is used, and reads nothing.
-fn main() {
+fn main(rt: HostRuntime) {
     let usage =
         b"usage: plot < FRAMES > REPLIES    (a plotting board: one reply a frame, each a line)\n\
         A frame is a line of lowercase hexadecimal digits, its kind first: 0041584dae33333333 begins a board.\n\
         README.md has the kinds of frames, how to read a reply and what to do about each number.\n";
-    if console::usage_said(usage) {
+    let mut err = rt.stderr();
+    if console::usage_said(&rt, &mut err, usage) {
         return;
     }
-    let way = run();
+    let way = run(&mut rt.stdin(), &mut rt.stdout());
     console::tell(
+        &mut err,
         way,
         b"plot: reading standard input failed",
         b"plot: writing standard output failed",

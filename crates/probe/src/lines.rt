@@ -1,8 +1,12 @@
 // The input cut into lines, in whatever pieces it comes.
 use crate::{call, page};
+use std::io::Write;
 
 // What is kept of a line: a call with all the arguments that there is room for, and one byte more, so that a longer line is no call.
 const KEPT: usize = call::MOST_LINE_BYTES + 1;
+
+// Room for the answer to a last line that no newline ends.
+const LAST_PAGE: usize = 4_096;
 
 // The first n bytes of a line that has begun.
 #[derive(Clone, Copy)]
@@ -34,7 +38,7 @@ fn answer(bytes: &[u8; KEPT], n: usize, page: &mut [u8], at: usize) -> usize {
 }
 
 // Answers each line that ends in xs. The page goes out whenever an answer might not fit, and at the end.
-pub(crate) fn pour(line: Line, xs: &[u8], page: &mut [u8]) -> Turned {
+pub(crate) fn pour<W: Write>(out: &mut W, line: Line, xs: &[u8], page: &mut [u8]) -> Turned {
     let mut bytes = line.bytes;
     let mut n = line.n;
     let mut at = 0;
@@ -44,7 +48,7 @@ pub(crate) fn pour(line: Line, xs: &[u8], page: &mut [u8]) -> Turned {
         i += 1;
         if b == b'\n' {
             if page::is_full(page, at) {
-                if !page::flush(page, at) {
+                if !page::flush(out, page, at) {
                     return Turned {
                         line: Line { bytes, n },
                         goes_on: false,
@@ -59,7 +63,7 @@ pub(crate) fn pour(line: Line, xs: &[u8], page: &mut [u8]) -> Turned {
             n += 1;
         }
     }
-    let goes_on = page::flush(page, at);
+    let goes_on = page::flush(out, page, at);
     Turned {
         line: Line { bytes, n },
         goes_on,
@@ -67,13 +71,13 @@ pub(crate) fn pour(line: Line, xs: &[u8], page: &mut [u8]) -> Turned {
 }
 
 // The answer to a last line that no newline ends.
-pub(crate) fn finish(line: Line) {
+pub(crate) fn finish<W: Write>(out: &mut W, line: Line) {
     let n = line.n;
     if n == 0 {
         return;
     }
     let bytes = line.bytes;
-    let mut page = io::buffer();
+    let mut page = [0u8; LAST_PAGE];
     let at = answer(&bytes, n, &mut page, 0);
-    page::flush(&page, at);
+    page::flush(out, &page, at);
 }
