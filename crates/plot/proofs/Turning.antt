@@ -1,36 +1,32 @@
--- What a read leaves, by how it went. A signed local holds bits: z is the number that is read back of them, and equal to the one handed over.
-use Prim.Native.Nat.{ℕ}
-use mathlib.Core.List.{List}
-use mathlib.Core.Logic.{◌⊎◌, ◌≢◌, ⊎_elim}
-use mathlib.Core.Path.{◌≡◌, sym, ◌∙◌}
-use native.Mathlib.Omega.{arith}
-use lib.IntN.{ℤ}
-use lib.ListN.{length, take}
-use Rattle.console.specs.declared.Way.{Way}
-use Rattle.console.specs.declared.Way.TheVariants.{On, WriteFailed}
+-- What a read came to, by how its turn went.
+use Rattle.std.proofs.Common.{ℕ, zero, suc, ◌≡◌, ◌≢◌, List, length, min, take, Result, Ok, Err, refl, ap, ◌∙◌}
+use mathlib.Core.Logic.{⊎_elim}
+use Rattle.std.specs.declared.io.Error.{Error}
+use Rattle.std.proofs.lemmas.List.{take_min}
+use Rattle.console.specs.declared.Way.TheVariants.{On, Ended}
 use Rattle.console.specs.Way.{way_of}
 use Rattle.frames.specs.declared.stream.Stream.{Stream}
-use Rattle.io.specs.Counts.{clamp_len}
+use Rattle.frames.specs.Stream.{Model, fed_state, view}
 use Rattle.plot.specs.declared.Turned.{Turned}
-use Rattle.plot.specs.Turn.{turned, Poured, Turning}
+use Rattle.plot.specs.Turn.{count_of, Poured, Turning}
 
-pub unwritten : WriteFailed ≢ On
-unwritten e = let z : ◌≡◌ {A = ℕ} 0 1 = cc in omega arith
+goes-on : {s : Stream} {xs : List ℕ} {r : Turned} → Poured s xs r → r.way ≢ Ended
+goes-on p e = ⊎_elim (λ h. let z : ⊥ = cc in z) (λ h. let w = h.1 in let z : ⊥ = cc in z) p.goes
 
-pub not-zero : (t : ℕ) → (t ≡ 1) ⊎ ((t ≡ 2) ⊎ (t ≡ 3)) → t ≢ 0
-not-zero t h e = ⊎_elim (λ (i : t ≡ 1). omega arith) (⊎_elim (λ (i : t ≡ 2). omega arith) (λ (i : t ≡ 3). omega arith)) h
+-- it ended: nothing came, and the stream is as it was
+pub turning-ended : (s : Stream) (got : Result ℕ Error) (piece : List ℕ) (r : Turned) → Turning s got piece r → r.way ≡ Ended
+    → (got ≡ Ok 0) × (r.stream ≡ s)
+turning-ended s (Ok zero) piece r t e = let n : way_of (Ok zero) ≢ On = (λ h. cc) in (refl, ap (λ (x : Turned). x.stream) (t.stays n))
+turning-ended s (Ok (suc n)) piece r t e = absurd (goes-on (t.came refl) e)
+turning-ended s (Err x) piece r t e =
+    let n : way_of (Err x) ≢ On = (λ h. cc) in let w = t.stays n in let z : ⊥ = cc in absurd z
 
-pub turning-on : (s : Stream) (z got : ℤ) (piece : List ℕ) (n : ℕ) (w : Way) (r : Turned)
-    → z ≡ got → w ≡ way_of z → w ≡ On → n ≡ clamp_len z (length piece) → Poured s (take n piece) r → Turning s got piece r
-turning-on s z got piece n w r e f g h p =
-    record {
-      came = λ i. rw (← e, ← h) p;
-      stays = λ i. absurd (i (rw (← e) (sym f ∙ g)));
-    }
-
-pub turning-off : (s : Stream) (z got : ℤ) (piece : List ℕ) (w : Way) → z ≡ got → w ≡ way_of z → w ≢ On → Turning s got piece (turned s w)
-turning-off s z got piece w e f g =
-    record {
-      came = λ i. absurd (g (f ∙ rw e i));
-      stays = λ i. rw (← e, f);
-    }
+-- it goes on: what came is taken
+pub turning-on : (s : Stream) (got : Result ℕ Error) (piece : List ℕ) (r : Turned) → Turning s got piece r → r.way ≡ On
+    → (n : ℕ) × (got ≡ Ok n) × (take (count_of got (length piece)) piece ≡ take n piece) × (view r.stream ≡ fed_state (view s) (take n piece))
+turning-on s (Ok zero) piece r t e =
+    let n : way_of (Ok zero) ≢ On = (λ h. cc) in let w = t.stays n in let z : ⊥ = cc in absurd z
+turning-on s (Ok (suc n)) piece r t e =
+    let m = take_min (suc n) piece in (suc n, refl, m, (t.came refl).fed e ∙ ap (λ (l : List ℕ). fed_state (view s) l) m)
+turning-on s (Err x) piece r t e =
+    let n : way_of (Err x) ≢ On = (λ h. cc) in let w = t.stays n in let z : ⊥ = cc in absurd z

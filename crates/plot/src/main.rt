@@ -1,8 +1,11 @@
 // Reads frames on standard input and writes the reply to each on standard output, until the input ends or a read or a write fails.
 #![tactic(auto)]
 
-ghost use Rattle.std.specs.Prelude.{◌≡◌, ◌≤◌, length};
-ghost use Rattle.frames.specs.Stream.{room};
+ghost use Rattle.std.specs.Prelude.{◌≡◌, ◌≢◌, ◌≤◌, IfSome, length, take};
+ghost use Rattle.std.specs.Io.KnownBytes.{Appends, Keeps};
+ghost use Rattle.console.specs.Way.{way_of};
+ghost use Rattle.frames.specs.Stream.{end_text, fed_text, room, view};
+ghost use Rattle.frames.specs.Whole.{replies};
 ghost use Rattle.plot.specs.Turn.{count_of, Poured, Turning};
 
 use console::Way;
@@ -28,7 +31,8 @@ struct Turned {
 // Answers a piece of the input, page by page, and writes each page at once.
 fn pour<W: Write>(out: &mut W, s: Stream, xs: &[u8], page: &mut [u8]) -> Turned
     requires { room ≤ length page.old }
-    ensures { Poured s xs.now result }
+    ensures poured { Poured s xs.now result }
+    ensures written { result.way ≡ Way.On → Appends (W.contents out.old) (W.contents out.new) (fed_text (view s) xs.now) }
 {
     let mut stream = s;
     let mut i = 0;
@@ -71,7 +75,9 @@ fn answer<W: Write>(
     page: &mut [u8],
 ) -> Turned
     requires { room ≤ length page.old }
-    ensures { Turning s got piece.now result }
+    ensures turning { Turning s got piece.now result }
+    ensures written { result.way ≡ Way.On → Appends (W.contents out.old) (W.contents out.new) (fed_text (view s) (take (count_of got (length piece.now)) piece.now)) }
+    ensures silent { way_of got ≢ Way.On → Keeps (W.contents out.old) (W.contents out.new) }
 {
     let way = console::way_of(got);
     match way {
@@ -84,7 +90,9 @@ fn answer<W: Write>(
 }
 
 // The end of the input: the reply to a line that has begun.
-fn last<W: Write>(out: &mut W, s: Stream) -> Way {
+fn last<W: Write>(out: &mut W, s: Stream) -> Way
+    ensures { result ≡ Way.Ended → Appends (W.contents out.old) (W.contents out.new) (end_text (view s)) }
+{
     let mut page = [0u8; LAST_PAGE];
     let n = frames::stream::finish(s, &mut page);
     match out.write_all(&page[..n]) {
@@ -94,7 +102,9 @@ fn last<W: Write>(out: &mut W, s: Stream) -> Way {
 }
 
 // Answers the whole input, and says how that ended. Each turn takes a byte at least, so 2^64 - 1 turns are more than any input has.
-fn run<R: Read, W: Write>(input: &mut R, out: &mut W) -> Way {
+fn run<R: Read, W: Write>(input: &mut R, out: &mut W) -> Way
+    ensures { result ≡ Way.Ended → IfSome (R.remaining input.old) (λ xs. Appends (W.contents out.old) (W.contents out.new) (replies xs)) }
+{
     let mut stream = frames::stream::begin();
     let mut piece = [0u8; PIECE];
     let mut page = [0u8; PAGE];
