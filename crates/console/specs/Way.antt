@@ -1,5 +1,6 @@
 -- How a program goes on after a read, and which failed write is a fault. Definitions only.
-use Rattle.std.specs.Prelude.{ℕ, zero, suc, Bool, true, false, not, eqb, ℤ, pos, negsuc, Result, Ok, Err, Option, None, Some}
+use Rattle.std.specs.Prelude.{ℕ, zero, suc, Bool, true, false, not, eqb, ℤ, pos, negsuc, List, [], ◌++◌, codes, Result, Ok, Err, Option, None, Some}
+use Rattle.std.specs.Io.KnownBytes.{Appends}
 use Rattle.std.specs.IoError.{raw_os_error}
 use Rattle.std.specs.declared.io.Error.{Error}
 use Rattle.console.specs.declared.Way.{Way}
@@ -31,3 +32,14 @@ is_told On = false
 is_told Ended = false
 is_told (ReadFailed e) = true
 is_told (WriteFailed e) = is_known_fault (raw_os_error e)
+
+-- the program's own words for it
+abbrev pub words_of : Way → List ℕ → List ℕ → List ℕ
+words_of On reading writing = []
+words_of Ended reading writing = []
+words_of (ReadFailed e) reading writing = reading
+words_of (WriteFailed e) reading writing = writing
+
+-- a line is appended: the words, a colon and a space, and the system's word for why
+abbrev pub SaysLine : List ℕ → Option (List ℕ) → Option (List ℕ) → Type 0
+SaysLine words old new = (why : List ℕ) × Appends old new (words ++ (codes ": " ++ (why ++ codes "\n")))

@@ -1,14 +1,12 @@
 // What the programs share: how one goes on after a read, and what it says on standard error.
 #![tactic(auto)]
 
-ghost use Rattle.std.specs.Prelude.{◌≡◌, ◌≤◌, false, length, ltb};
-ghost use Rattle.std.specs.Io.KnownBytes.{Keeps};
-ghost use Rattle.console.specs.Way.{way_of, is_fault, is_told};
+ghost use Rattle.std.specs.Prelude.{◌≡◌, ◌≤◌, false, true, IfOk, IsOk, Ok, OnOk, length, ltb};
+ghost use Rattle.std.specs.Io.KnownBytes.{Appends, Keeps};
+ghost use Rattle.console.specs.Way.{way_of, is_fault, is_told, words_of, SaysLine};
 
-use std::env::FillError;
 use std::io;
 use std::io::Write;
-use std::rt::Env;
 
 // How a program goes on, or why it ends. A call that failed has left its error.
 #[derive(Clone, Copy)]
@@ -37,23 +35,23 @@ pub fn way_of(got: io::Result<usize>) -> Way
 
 // Says in a line of the program's own words which failed, the reading or the writing, and why.
 // Of a write that is no fault nothing is said.
-pub fn tell<W: Write>(err: &mut W, way: Way, reading: &[u8], writing: &[u8])
+pub fn tell<W: Write>(err: &mut W, way: Way, reading: &[u8], writing: &[u8]) -> io::Result<()>
     ensures unchanged { (reading.now ≡ reading.now) × (writing.now ≡ writing.now) }
-    ensures silent { is_told way ≡ false → Keeps (W.contents err.old) (W.contents err.new) }
+    ensures said { is_told way ≡ true → OnOk result (SaysLine (words_of way reading.now writing.now) (W.contents err.old) (W.contents err.new)) }
+    ensures silent { is_told way ≡ false → IsOk result × Keeps (W.contents err.old) (W.contents err.new) }
 {
     match way {
-        Way::On | Way::Ended => {}
-        Way::ReadFailed(error) => {
-            fail(err, reading, error);
-        }
+        Way::On | Way::Ended => Ok(()),
+        Way::ReadFailed(error) => fail(err, reading, error),
         Way::WriteFailed(error) => {
             let told = match error.raw_os_error() {
                 Some(code) => is_fault(code),
                 None => true,
             };
             if told {
-                fail(err, writing, error);
+                return fail(err, writing, error);
             }
+            Ok(())
         }
     }
 }
@@ -76,39 +74,32 @@ pub fn has_argument(words: usize) -> bool
 }
 
 // Says the usage where the program was started with an argument, for none takes one. Did it?
-pub fn usage_said<W: Write>(rt: &HostRuntime, err: &mut W, usage: &[u8]) -> bool
+pub fn usage_said<W: Write>(err: &mut W, words: usize, usage: &[u8]) -> io::Result<bool>
     ensures unchanged { usage.now ≡ usage.now }
-    ensures silent { result ≡ false → Keeps (W.contents err.old) (W.contents err.new) }
+    ensures said { IfOk result (λ said. said ≡ ltb 1 words) }
+    ensures usage { result ≡ Ok true → Appends (W.contents err.old) (W.contents err.new) usage.now }
+    ensures silent { ltb 1 words ≡ false → IsOk result × Keeps (W.contents err.old) (W.contents err.new) }
 {
-    if has_argument(words(rt)) {
-        let _ = err.write_all(usage);
-        return true;
+    if has_argument(words) {
+        err.write_all(usage)?;
+        return Ok(true);
     }
-    false
-}
-
-// How many words was the program started with? With the host's runtime a program rests on this one call of it; with any runtime it would rest on all.
-fn words(rt: &HostRuntime) -> usize {
-    let mut first = [0u8; 1];
-    for i in 0..usize::MAX {
-        if let Err(FillError::NotPresent) = rt.arg(i, &mut first) {
-            return i;
-        }
-    }
-    usize::MAX
+    Ok(false)
 }
 
 // Room for what the system says of an error, and for its number.
 const TEXT: usize = 256;
 
 // A line: what failed, as the program names it, and the system's word for why.
-fn fail<W: Write>(err: &mut W, what: &[u8], error: io::Error) {
+fn fail<W: Write>(err: &mut W, what: &[u8], error: io::Error) -> io::Result<()>
+    ensures { OnOk result (SaysLine what.now (W.contents err.old) (W.contents err.new)) }
+{
     let mut text = [0u8; TEXT];
     let n = put_error(error, &mut text);
-    let _ = err.write_all(what);
-    let _ = err.write_all(b": ");
-    let _ = err.write_all(word(&text[..n]));
-    let _ = err.write_all(b"\n");
+    err.write_all(what)?;
+    err.write_all(b": ")?;
+    err.write_all(word(&text[..n]))?;
+    err.write_all(b"\n")
 }
 
 // The error's text, over the room from its start on, and the place past it.

@@ -10,8 +10,10 @@ ghost use Rattle.plot.specs.Turn.{count_of, Poured, Turning};
 
 use console::Way;
 use frames::stream::Stream;
+use std::env::FillError;
 use std::io;
 use std::io::{Read, Write};
+use std::rt::Env;
 
 // How much is read at once. A larger piece than a pipe holds: a stream is handed on by value with each.
 const PIECE: usize = 262_144;
@@ -129,6 +131,17 @@ fn run<R: Read, W: Write>(input: &mut R, out: &mut W) -> Way
     Way::On
 }
 
+// How many words was the program started with? Its own name is the first. With the host's runtime it rests on this one call; with any runtime it would rest on all.
+fn words(rt: &HostRuntime) -> usize {
+    let mut first = [0u8; 1];
+    for i in 0..usize::MAX {
+        if let Err(FillError::NotPresent) = rt.arg(i, &mut first) {
+            return i;
+        }
+    }
+    usize::MAX
+}
+
 // With any argument it says how it is used, and reads nothing.
 fn main(rt: HostRuntime) {
     let usage =
@@ -136,11 +149,12 @@ fn main(rt: HostRuntime) {
         A frame is a line of lowercase hexadecimal digits, its kind first: 0041584dae33333333 begins a board.\n\
         README.md has the kinds of frames, how to read a reply and what to do about each number.\n";
     let mut err = rt.stderr();
-    if console::usage_said(&rt, &mut err, usage) {
+    // A usage that could not be written was asked for all the same.
+    if console::usage_said(&mut err, words(&rt), usage).unwrap_or(true) {
         return;
     }
     let way = run(&mut rt.stdin(), &mut rt.stdout());
-    console::tell(
+    let _ = console::tell(
         &mut err,
         way,
         b"plot: reading standard input failed",
