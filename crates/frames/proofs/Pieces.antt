@@ -18,7 +18,7 @@ use Rattle.sessions.specs.declared.session.Session.{Session}
 use Rattle.sessions.specs.Session.{next, plain_of}
 use Rattle.frames.specs.declared.stream.Stream.{Stream}
 use Rattle.hex_digits.specs.Write.{over}
-use Rattle.frames.specs.Whole.{newline, onto, lines_of, reply_line, replies_to}
+use Rattle.frames.specs.Whole.{newline, onto, lines_of, reply_line, replies_to, replies}
 use Rattle.frames.specs.Line.{kept}
 use Rattle.frames.specs.Stream.{room, Model, fresh, added, stepped, answered, fed_state, fed_text, last_text, end_text, view, Written, last_in, Ran, AnswersAll}
 use Rattle.frames.specs.Stream.Ran.{ended, fed}
@@ -124,7 +124,7 @@ whole (x ∷ xs) o q = by_byte x xs (eqb x newline) refl (whole xs) o q
 -- ---- what the code writes
 
 -- what stands on a page up to the place past a text is the text
-taken : {text page out : List ℕ} {n : ℕ} → Written text page out n → take n out ≡ text
+pub taken : {text page out : List ℕ} {n : ℕ} → Written text page out n → take n out ≡ text
 unfolding over
 taken {text} {page} {out} {n} w =
     ap (λ (k : ℕ). take k out) (w.past ∙ zero-add (length text)) ∙ ap (take (length text)) w.text ∙ take_at text (drop (0 + length text) page) (length text) refl
@@ -136,6 +136,11 @@ ran-text (fed {s} {page} {out} {text} xs rest r f p) =
     rw (taken f.wrote, ran-text p, f.stream_is)
     (all_append (view s) (take r.used xs) (drop r.used xs ++ rest)
     ∙ ap (all_text (view s)) (sym (append_assoc (take r.used xs) (drop r.used xs) rest) ∙ ap (λ (l : List ℕ). l ++ rest) (take-append-drop r.used xs)))
+
+-- all that an input is answered, from a stream of which nothing has come, is its replies
+pub whole-text : (xs : List ℕ) → fed_text fresh xs ++ end_text (fed_state fresh xs) ≡ replies xs
+unfolding fresh
+whole-text xs = whole xs none [] ∙ ap (replies_to none) (begun-none (lines_of xs))
 
 -- whatever the pieces and the pages are, what is written is the replies to the whole input
 pub whole-input : (s : Stream) → view s ≡ fresh → AnswersAll s
