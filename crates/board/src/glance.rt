@@ -72,7 +72,7 @@ pub fn board_of(setting: Setting, entries: [Target; MOST_TARGETS]) -> Board
 // What a call makes of every board of this setting whose targets have these identities.
 pub fn glance(setting: Setting, ids: &[u16], call: Call) -> Hint
     ensures value { result ≡ spec.glance setting ids.now call }
-    ensures unchanged { ids.now ≡ ids.now }
+    ensures unchanged { ids.exit.now ≡ ids.entry.now }
 {
     match call {
         Call::Report(identity, fix) => at_report(setting.count, ids, identity, fix),

@@ -36,7 +36,7 @@ pub fn way_of(got: io::Result<usize>) -> Way
 // Says in a line of the program's own words which failed, the reading or the writing, and why.
 // Of a write that is no fault nothing is said.
 pub fn tell<W: Write>(err: &mut W, way: Way, reading: &[u8], writing: &[u8]) -> io::Result<()>
-    ensures unchanged { (reading.now ≡ reading.now) × (writing.now ≡ writing.now) }
+    ensures unchanged { (reading.exit.now ≡ reading.entry.now) × (writing.exit.now ≡ writing.entry.now) }
     ensures said { is_told way ≡ true → OnOk result (SaysLine (words_of way reading.now writing.now) (W.contents err.old) (W.contents err.new)) }
     ensures silent { is_told way ≡ false → IsOk result × Keeps (W.contents err.old) (W.contents err.new) }
 {
@@ -75,7 +75,7 @@ pub fn has_argument(words: usize) -> bool
 
 // Says the usage where the program was started with an argument, for none takes one. Did it?
 pub fn usage_said<W: Write>(err: &mut W, words: usize, usage: &[u8]) -> io::Result<bool>
-    ensures unchanged { usage.now ≡ usage.now }
+    ensures unchanged { usage.exit.now ≡ usage.entry.now }
     ensures said { IfOk result (λ said. said ≡ ltb 1 words) }
     ensures usage { result ≡ Ok true → Appends (W.contents err.old) (W.contents err.new) usage.now }
     ensures silent { ltb 1 words ≡ false → IsOk result × Keeps (W.contents err.old) (W.contents err.new) }

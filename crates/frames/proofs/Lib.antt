@@ -1,4 +1,5 @@
 pub mod Pieces
+pub mod Room
 pub mod Spans
 pub mod Turns
 pub mod Feeds

@@ -213,7 +213,7 @@ fn lines(s: Stream, xs: &[u8], page: &mut [u8]) -> Fed
 // Answers the whole lines of a piece, from the start of the page on, until the piece ends or a reply might not fit.
 pub fn feed(s: Stream, xs: &[u8], page: &mut [u8]) -> Fed
     ensures feeding { spec.Feeding s xs.now page.old page.new result }
-    ensures unchanged { xs.now ≡ xs.now }
+    ensures unchanged { xs.exit.now ≡ xs.entry.now }
 {
     if s.n == 0 {
         return lines(s, xs, page);

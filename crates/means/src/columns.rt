@@ -23,7 +23,7 @@ pub(crate) struct Places {
 // The mean of the first n positions, or of all where there are fewer: all x, then all y, then all z. One or two numbers left over at the end count for nothing.
 pub fn mean_of_columns(cs: &[f64], n: usize) -> Mean
     ensures mean { result ≡ spec.column_mean cs.now n }
-    ensures unchanged { cs.now ≡ cs.now }
+    ensures unchanged { cs.exit.now ≡ cs.entry.now }
 {
     let m = cs.len() / 3;
     let k = if n < m { n } else { m };

@@ -10,7 +10,7 @@ use vectors::vec3::Vec3;
 // Two loops in one function: for each entry the inner one looks for its negation among all.
 pub fn mean_position_of(positions: &[NVector]) -> Mean
     ensures mean { result ≡ spec.mean_of positions.now }
-    ensures unchanged { positions.now ≡ positions.now }
+    ensures unchanged { positions.exit.now ≡ positions.entry.now }
 {
     let n = positions.len();
     let mut sum = Vec3::ZERO;

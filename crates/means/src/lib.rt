@@ -37,7 +37,7 @@ impl Mean {
 // The mean of positions, the unit vector along their sum; one is its own mean. Empty (16) of none, Antipodal (17) where one is the negation of another or of itself.
 pub fn mean_position(cs: &[f64]) -> Mean
     ensures mean { result ≡ spec.mean_position cs.now }
-    ensures unchanged { cs.now ≡ cs.now }
+    ensures unchanged { cs.exit.now ≡ cs.entry.now }
 {
     mean_laid(
         cs,

@@ -25,7 +25,7 @@ pub enum Quick {
 // What a frame makes of every session of this setting whose targets have these identities.
 pub fn look(started: bool, setting: Setting, ids: &[u16], frame: Frame) -> Quick
     ensures value { result ≡ spec.look started setting ids.now frame }
-    ensures unchanged { ids.now ≡ ids.now }
+    ensures unchanged { ids.exit.now ≡ ids.entry.now }
 {
     match frame {
         Frame::Fresh(_) => Quick::Unclear,

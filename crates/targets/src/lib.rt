@@ -98,7 +98,7 @@ fn identities_of(entries: [Target; MOST_TARGETS], n: usize) -> [u16; MOST_TARGET
 // Where an identity stands among the first of these, at most 64, or before which it would.
 pub fn seek(ids: &[u16], count: usize, identity: u16) -> Spot
     ensures value { result ≡ spec.spot_in 0 identity (take (at_most count) ids.now) }
-    ensures unchanged { ids.now ≡ ids.now }
+    ensures unchanged { ids.exit.now ≡ ids.entry.now }
 {
     let m = least(count);
     let n = if m < ids.len() { m } else { ids.len() };

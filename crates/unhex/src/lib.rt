@@ -44,7 +44,7 @@ fn block_of_digits(s: &[u8], at: usize) -> bool
 // Are all bytes of s digits?
 pub fn all_digits(s: &[u8]) -> bool
     ensures value { result ≡ all_digits s.now }
-    ensures unchanged { s.now ≡ s.now }
+    ensures unchanged { s.exit.now ≡ s.entry.now }
 {
     if s.len() < 16 {
         return each_digit(s);
@@ -159,7 +159,7 @@ fn at_most_16(n: usize) -> usize
 // 0 where s ends before.
 pub fn two_at(s: &[u8], at: usize) -> u64
     ensures value { result ≡ lows_in s.now at 2 }
-    ensures unchanged { s.now ≡ s.now }
+    ensures unchanged { s.exit.now ≡ s.entry.now }
 {
     if at > s.len() {
         return 0;
@@ -173,7 +173,7 @@ pub fn two_at(s: &[u8], at: usize) -> u64
 // The number of the 16 digits of s from at on, for who knows that they are digits: a byte that is none counts by its low bits alone. 0 where s ends before.
 pub fn sixteen_at(s: &[u8], at: usize) -> u64
     ensures value { result ≡ lows_in s.now at 16 }
-    ensures unchanged { s.now ≡ s.now }
+    ensures unchanged { s.exit.now ≡ s.entry.now }
 {
     if at > s.len() {
         return 0;
@@ -190,7 +190,7 @@ pub fn sixteen_at(s: &[u8], at: usize) -> u64
 // A byte that is no digit counts as 0, and so does a place past the end of s.
 pub fn number_at(s: &[u8], at: usize, n: usize) -> u64
     ensures value { result ≡ hex_at s.now at (min n 16) }
-    ensures unchanged { s.now ≡ s.now }
+    ensures unchanged { s.exit.now ≡ s.entry.now }
 {
     let width = at_most_16(n);
     if at <= s.len() {

@@ -156,7 +156,7 @@ fn asked(s: &[u8], frame: Frame) -> Frame
 // The frame that a line without its newline is, for who knows by `digits` whether it is digits alone: where it is not, and is said to be, bytes count by their low bits.
 pub fn read_known(s: &[u8], digits: bool) -> Frame
     ensures value { result ≡ known.frame_known digits s.now }
-    ensures unchanged { s.now ≡ s.now }
+    ensures unchanged { s.exit.now ≡ s.entry.now }
 {
     if !digits {
         return Frame::NotAFrame;
@@ -183,7 +183,7 @@ pub fn read_known(s: &[u8], digits: bool) -> Frame
 // The frame that a line without its newline is.
 pub fn read(s: &[u8]) -> Frame
     ensures value { result ≡ spec.frame_of s.now }
-    ensures unchanged { s.now ≡ s.now }
+    ensures unchanged { s.exit.now ≡ s.entry.now }
 {
     if s.len() > MOST_FRAME_DIGITS {
         return Frame::NotAFrame;
