@@ -1,12 +1,12 @@
 -- What a read came to, by how its turn went.
-use Rattle.std.proofs.Common.{ℕ, zero, suc, ◌≡◌, ◌≢◌, List, length, min, take, Result, Ok, Err, refl, ap, ◌∙◌}
+use Rattle.std.proofs.Common.{ℕ, zero, suc, ◌≡◌, ◌≢◌, List, length, take, Result, Ok, Err, refl, ap, ◌∙◌}
 use mathlib.Core.Logic.{⊎_elim}
 use Rattle.std.specs.declared.io.Error.{Error}
 use Rattle.std.proofs.lemmas.List.{take_min}
 use Rattle.console.specs.declared.Way.TheVariants.{On, Ended}
 use Rattle.console.specs.Way.{way_of}
 use Rattle.frames.specs.declared.stream.Stream.{Stream}
-use Rattle.frames.specs.Stream.{Model, fed_state, view}
+use Rattle.frames.specs.Stream.{fed_state, view}
 use Rattle.plot.specs.declared.Turned.{Turned}
 use Rattle.plot.specs.Turn.{count_of, Poured, Turning}
 

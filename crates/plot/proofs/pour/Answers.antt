@@ -1,5 +1,5 @@
 -- Each turn of the loop uses some of the piece, and what is used makes up the piece.
-use Rattle.std.proofs.Common.{◌≡◌, ◌-◌, ◌<◌, ◌≤◌, length, take, inl, refl, subst, ◌∙◌, arith, take_all}
+use Rattle.std.proofs.Common.{◌-◌, ◌<◌, ◌≤◌, length, inl, refl, subst, ◌∙◌, arith, take_all}
 use Rattle.std.specs.Io.KnownBytes.{Appends}
 use Rattle.std.proofs.KnownBytes.{Appends-nil, Appends-trans}
 use Rattle.frames.specs.Stream.{fed_state, fed_text, view}
