@@ -1,7 +1,7 @@
 // What the programs share: how one goes on after a read, and what it says on standard error.
 #![tactic(auto)]
 
-ghost use Rattle.std.specs.Prelude.{◌≡◌, ◌≤◌, false, true, IfOk, IsOk, Ok, OnOk, length, ltb};
+ghost use Rattle.std.specs.Prelude.{◌≡◌, ◌≤◌, false, true, IsOk, OnOk, length, ltb};
 ghost use Rattle.std.specs.Io.KnownBytes.{Appends, Keeps};
 ghost use Rattle.console.specs.Way.{way_of, is_fault, is_told, words_of, SaysLine};
 
@@ -34,9 +34,16 @@ pub fn way_of(got: io::Result<usize>) -> Way
 }
 
 // Says in a line of the program's own words which failed, the reading or the writing, and why.
-// Of a write that is no fault nothing is said.
-pub fn tell<W: Write>(err: &mut W, way: Way, reading: &[u8], writing: &[u8]) -> io::Result<()>
+// Of a write that is no fault nothing is said. A line that cannot be written is lost.
+pub fn tell<W: Write>(err: &mut W, way: Way, reading: &[u8], writing: &[u8])
     ensures unchanged { (reading.exit.now ≡ reading.entry.now) × (writing.exit.now ≡ writing.entry.now) }
+    ensures silent { is_told way ≡ false → Keeps (W.contents err.old) (W.contents err.new) }
+{
+    let _ = say(err, way, reading, writing);
+}
+
+// The line, or nothing, and whether it could be written.
+fn say<W: Write>(err: &mut W, way: Way, reading: &[u8], writing: &[u8]) -> io::Result<()>
     ensures said { is_told way ≡ true → OnOk result (SaysLine (words_of way reading.now writing.now) (W.contents err.old) (W.contents err.new)) }
     ensures silent { is_told way ≡ false → IsOk result × Keeps (W.contents err.old) (W.contents err.new) }
 {
@@ -73,18 +80,24 @@ pub fn has_argument(words: usize) -> bool
     1 < words
 }
 
-// Says the usage where the program was started with an argument, for none takes one. Did it?
-pub fn usage_said<W: Write>(err: &mut W, words: usize, usage: &[u8]) -> io::Result<bool>
+// Says the usage where the program was started with an argument, for none takes one. Did it? A usage that cannot be written is lost.
+pub fn usage_said<W: Write>(err: &mut W, words: usize, usage: &[u8]) -> bool
+    ensures said { result ≡ ltb 1 words }
     ensures unchanged { usage.exit.now ≡ usage.entry.now }
-    ensures said { IfOk result (λ said. said ≡ ltb 1 words) }
-    ensures usage { result ≡ Ok true → Appends (W.contents err.old) (W.contents err.new) usage.now }
-    ensures silent { ltb 1 words ≡ false → IsOk result × Keeps (W.contents err.old) (W.contents err.new) }
+    ensures silent { result ≡ false → Keeps (W.contents err.old) (W.contents err.new) }
 {
     if has_argument(words) {
-        err.write_all(usage)?;
-        return Ok(true);
+        let _ = say_usage(err, usage);
+        return true;
     }
-    Ok(false)
+    false
+}
+
+// The usage, and whether it could be written.
+fn say_usage<W: Write>(err: &mut W, usage: &[u8]) -> io::Result<()>
+    ensures { OnOk result (Appends (W.contents err.old) (W.contents err.new) usage.now) }
+{
+    err.write_all(usage)
 }
 
 // Room for what the system says of an error, and for its number.

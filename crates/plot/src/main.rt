@@ -149,12 +149,11 @@ fn main(rt: HostRuntime) {
         A frame is a line of lowercase hexadecimal digits, its kind first: 0041584dae33333333 begins a board.\n\
         README.md has the kinds of frames, how to read a reply and what to do about each number.\n";
     let mut err = rt.stderr();
-    // A usage that could not be written was asked for all the same.
-    if console::usage_said(&mut err, words(&rt), usage).unwrap_or(true) {
+    if console::usage_said(&mut err, words(&rt), usage) {
         return;
     }
     let way = run(&mut rt.stdin(), &mut rt.stdout());
-    let _ = console::tell(
+    console::tell(
         &mut err,
         way,
         b"plot: reading standard input failed",
