@@ -2,7 +2,7 @@
 """The repository's own names in the spelling of today's Rattle, after port.py; run once, at the top.
 
 A definition, a variable, a constructor or a field of an antt file is written in snake case; a constant has the spelling of its source.
-A dash stays where it joins the parts of a lemma's name. Types, modules and everything of src/ keep their names.
+A dash stays where it joins the parts of a lemma's name. Types, modules and the functions of src/ keep their names; the clauses over them are turned.
 """
 import os
 import re
