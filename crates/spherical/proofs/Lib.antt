@@ -1,2 +1,4 @@
 pub mod HalfCircle
 pub mod Monotone
+pub mod Fraction
+pub mod Together

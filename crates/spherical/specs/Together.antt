@@ -1,11 +1,9 @@
--- "Table to prove of the definitions, together": every row of document 01's table, in its words and order, as one theorem.
+-- "Table to prove of the definitions, together": every row of document 01's table, in its words and order, as one statement; `table` of proofs/Together.antt proves it.
 use Rattle.std.specs.Prelude.{◌≡◌, true, false, [], ◌∷◌, pos, negsuc}
 use Rattle.std.specs.Float.{nan, fin}
 use Rattle.patterns.specs.Operators.{pi}
 use Rattle.roots.specs.Root.{sqrt}
 use Rattle.float.specs.Trig.{cos, atan2}
-use Rattle.float.specs.Table as floats
-use Rattle.roots.specs.Table as roots
 use Rattle.vectors.specs.Literal.{zero, one, minus_one}
 use Rattle.jord.specs.Numbers.{eq_zero}
 use Rattle.jord.specs.Angle as angle
@@ -14,18 +12,12 @@ use Rattle.jord.specs.Speed as speed
 use Rattle.vectors.specs.Vec3.{UNIT_X, UNIT_Y, UNIT_Z, NEG_UNIT_Y, orthogonal}
 use Rattle.jord.specs.Positions.{nvector_new}
 use Rattle.jord.specs.Vehicle as vehicle
-use Rattle.jord.specs.Table as jords
-use Rattle.vectors.specs.Table as vectors
 use Rattle.jord.specs.declared.positions.NVector.{NVector}
 use Rattle.arcs.specs.Base.{side}
 use Rattle.spherical.specs.Interpolated as interpolated
 use Rattle.means.specs.Mean.{mean_position, number_of}
 use Rattle.spherical.specs.Sphere as sphere
 use Rattle.spherical.specs.Sphere.{interpolated_position, time_to_cpa}
-use Rattle.spherical.specs.Table as rows
-use Rattle.arcs.specs.Table as arcs
-use Rattle.means.specs.Table as means
-use Rattle.walks.specs.Table as walks
 use Rattle.arcs.specs.declared.Side.TheVariants.{Left, Right}
 use Rattle.spherical.specs.declared.interpolated.Interpolated.TheVariants as interpolation
 use Rattle.means.specs.declared.Mean.TheVariants.{Position}
@@ -57,24 +49,3 @@ pub record Together : Type 0 where
   -- "Radius 1.0, both vehicles at X with bearing and speed zero: closest approach 12, count 1"
   pub at_rest : time_to_cpa (sphere.new (from_metres one)) (vehicle.new (nvector_new UNIT_X) angle.ZERO speed.ZERO)
       (vehicle.new (nvector_new UNIT_X) angle.ZERO speed.ZERO) ≡ ZeroDerivative 1
-
-pub table : Together
-table =
-    record {
-      root = roots.root-of-smallest;
-      eq_zero_yes = jords.eq_zero_yes;
-      eq_zero_no = jords.eq_zero_no;
-      orthogonal_of_x = vectors.orthogonal_of_x;
-      side_left = arcs.side_left;
-      side_right = arcs.side_right;
-      side_equal_ends = arcs.side_equal_ends;
-      cosine = floats.cosine-of-pi;
-      arc = floats.atan2-of-zero-minus-one;
-      mean_of_none = means.mean_of_none;
-      mean_of_opposites = means.mean_of_opposites;
-      mean_of_zero = means.mean_of_zero;
-      mean_of_one = means.mean_of_one;
-      fraction_nan = rows.fraction_nan;
-      fraction_minus_zero = rows.fraction_minus_zero;
-      at_rest = walks.cpa-at-rest;
-    }
