@@ -11,7 +11,7 @@ use lib.Ieee.Exact.{HasValue}
 use lib.Ieee.Fits.{mul-fits}
 use lib.Ieee.Nearest.{closest, closest_same}
 use lib.Ieee.Positive.{num, den, den_pos}
-use Rattle.patterns.specs.Bits.{sign_bit, unpacked}
+use Rattle.patterns.specs.Bits.{sign_bit, digits, place}
 use Rattle.patterns.specs.declared.Unpacked.{Unpacked}
 use Rattle.patterns.proofs.Value.{HasParts, parts-value}
 use Rattle.patterns.specs.Operators.{whole}
@@ -67,17 +67,22 @@ pub record Digits (x : Float) (j : ℕ) (p : Unpacked) : Type 0 where
   pub parts : HasParts x p.digits p.place
   pub low : p.place < 1022 + j
 
-digits_of : (x : Float) (n j b : ℕ) (p : Unpacked) → n ≤ 2 ^ j → Within x n → T (fits binary64 x) → b ≡ to_bits binary64 x → p ≡ unpacked b → Digits x j p
+-- p is what `unpack` makes of the pattern b
+pub record Parts (b : ℕ) (p : Unpacked) : Type 0 where
+  pub its_digits : p.digits ≡ digits b
+  pub its_place : p.place ≡ place b
+
+digits_of : (x : Float) (n j b : ℕ) (p : Unpacked) → n ≤ 2 ^ j → Within x n → T (fits binary64 x) → b ≡ to_bits binary64 x → Parts b p → Digits x j p
 digits_of x n j b p h w f e q =
-    let parts = subst (λ (z : Unpacked). HasParts x z.digits z.place) (sym (q ∙ ap unpacked e)) (parts-value x f w.is_finite) in
+    let parts : HasParts x p.digits p.place = rw (q.its_digits, q.its_place, e) (parts-value x f w.is_finite) in
     record { parts = parts; low = place-lt x p.digits p.place j parts (lt_of_lt_of_le w.below (mul-le-mul_right (den x) h)) }
 
 -- ---- the digits of what passes both questions
 pub seconds-digits : (t : Float) (b : ℕ) (p : Unpacked) → T (fits binary64 t) → not (zero_or_more t) ≡ false → not (below_limit t) ≡ false
-    → b ≡ to_bits binary64 t → p ≡ unpacked b → Digits t 34 p
+    → b ≡ to_bits binary64 t → Parts b p → Digits t 34 p
 seconds-digits t b p f x y e q = digits_of t limit 34 b p (lit≤ tt) (within-limit t (yes (zero_or_more t) x) (yes (below_limit t) y)) f e q
 
 pub product-digits : (h : Float) (b : ℕ) (p : Unpacked) → not (zero_or_more h) ≡ false → not (product_below h) ≡ false → b ≡ to_bits binary64 (product h)
-    → p ≡ unpacked b → Digits (product h) 64 p
+    → Parts b p → Digits (product h) 64 p
 product-digits h b p x y e q =
     digits_of (product h) limit_nanoseconds 64 b p (lit≤ tt) (within-limit-nanoseconds h (yes (zero_or_more h) x) (yes (product_below h) y)) (mul-fits binary64 h (whole hour)) e q

@@ -5,6 +5,8 @@ ghost use Rattle.std.specs.Prelude.{◌≡◌, ◌+◌, ◌*◌, ◌^◌, ◌≤
 ghost use Rattle.std.specs.Float.Ieee.Nearest.{closest};
 ghost use Rattle.duration.specs.Duration as spec;
 
+use patterns::Unpacked;
+
 // The nanoseconds of a second: 5^9 * 2^9.
 const SECOND: u64 = 1_000_000_000;
 
@@ -23,71 +25,49 @@ const LIMIT_NANOSECONDS: f64 = LIMIT * (SECOND as f64);
 // Digits at place 0 count units of 2^-UNITS.
 const UNITS: u64 = 1074;
 
-// A time as a duration, or why it is none.
+// Why a time is no duration, with document 01's numbers.
 #[derive(Clone, Copy)]
-pub enum Converted {
-    Nanoseconds(u64),
+pub enum OutOfRange {
     // Not zero or more, as a NaN is not.
-    Negative,
+    Negative = 14,
     // Not below 2^34 seconds.
-    TooLong,
+    TooLong = 15,
 }
 
-impl Converted {
-    // Document 01's number of the answer, 0 where there is a duration.
+impl OutOfRange {
+    // Document 01's number.
     pub fn number(self) -> u8
-        ensures { result ≡ spec.number_of self }
+        ensures { result ≡ spec.refusal_number self }
     {
-        match self {
-            Converted::Nanoseconds(_) => 0,
-            Converted::Negative => 14,
-            Converted::TooLong => 15,
-        }
-    }
-
-    // The duration in nanoseconds, 0 where there is none.
-    pub fn nanoseconds(self) -> u64
-        ensures { result ≡ spec.nanoseconds_of self }
-    {
-        match self {
-            Converted::Nanoseconds(n) => n,
-            Converted::Negative => 0,
-            Converted::TooLong => 0,
-        }
+        self as u8
     }
 }
 
 // The duration of t seconds: the exact value times 10^9, nearest, ties to even.
-pub fn from_seconds(t: f64) -> Converted
+pub fn from_seconds(t: f64) -> Result<u64, OutOfRange>
     ensures { result ≡ spec.from_seconds t }
 {
     if !(0.0 <= t) {
-        return Converted::Negative;
+        return Err(OutOfRange::Negative);
     }
     if !(t < LIMIT) {
-        return Converted::TooLong;
+        return Err(OutOfRange::TooLong);
     }
-    let p = patterns::unpack(patterns::to_bits(t));
-    let digits = p.digits;
-    let place = p.place;
-    Converted::Nanoseconds(nearest_even(digits, place))
+    Ok(nearest_even(patterns::unpack(patterns::to_bits(t))))
 }
 
 // The duration of h hours: the float product with 3.6e12, nearest, halves away from zero.
-pub fn from_hours(h: f64) -> Converted
+pub fn from_hours(h: f64) -> Result<u64, OutOfRange>
     ensures { result ≡ spec.from_hours h }
 {
     if !(0.0 <= h) {
-        return Converted::Negative;
+        return Err(OutOfRange::Negative);
     }
     let product = h * HOUR;
     if !(product < LIMIT_NANOSECONDS) {
-        return Converted::TooLong;
+        return Err(OutOfRange::TooLong);
     }
-    let p = patterns::unpack(patterns::to_bits(product));
-    let digits = p.digits;
-    let place = p.place;
-    Converted::Nanoseconds(half_away(digits, place))
+    Ok(half_away(patterns::unpack(patterns::to_bits(product))))
 }
 
 // A duration's seconds: whole seconds plus nanoseconds / 1e9.
@@ -98,19 +78,19 @@ pub fn to_seconds(nanoseconds: u64) -> f64
 }
 
 // digits * 2^place units of a second, below 2^34 seconds, in nanoseconds: nearest, ties to even.
-fn nearest_even(digits: u64, place: u64) -> u64
-    requires { (digits < 2 ^ 53) × (place ≤ 1055) }
-    ensures { result ≡ closest (digits * 2 ^ place * spec.second) (2 ^ 1074) }
+fn nearest_even(p: Unpacked) -> u64
+    requires { p.place ≤ 1055 }
+    ensures { result ≡ closest (p.digits * 2 ^ p.place * spec.second) (2 ^ 1074) }
 {
     // The quotient is digits * FIVES / 2^k.
-    let k = UNITS - 9 - place;
+    let k = UNITS - 9 - p.place;
     // Less than half a nanosecond.
     if k > 74 {
         return 0;
     }
     // The dividend has up to 74 bits: `under` is the lowest ten, `high` the others.
-    let low = digits % 1024 * FIVES;
-    let high = digits / 1024 * FIVES + low / 1024;
+    let low = p.digits % 1024 * FIVES;
+    let high = p.digits / 1024 * FIVES + low / 1024;
     let under = low % 1024;
     // The half's digit is the highest of `under`.
     if k == 10 {
@@ -139,15 +119,15 @@ fn settle(q: u64, h: u64, rest: bool) -> u64
 }
 
 // digits * 2^place units, below 2^64, to the nearest whole number: halves away from zero.
-fn half_away(digits: u64, place: u64) -> u64
-    requires { (digits < 2 ^ 53) × (place ≤ 1085) }
-    ensures { result ≡ spec.half_away (digits * 2 ^ place) (2 ^ 1074) }
+fn half_away(p: Unpacked) -> u64
+    requires { p.place ≤ 1085 }
+    ensures { result ≡ spec.half_away (p.digits * 2 ^ p.place) (2 ^ 1074) }
 {
-    if place >= UNITS {
-        return digits << (place - UNITS);
+    if p.place >= UNITS {
+        return p.digits << (p.place - UNITS);
     }
-    if place < UNITS - 53 {
+    if p.place < UNITS - 53 {
         return 0;
     }
-    (digits / (1u64 << (UNITS - 1 - place)) + 1) / 2
+    (p.digits / (1u64 << (UNITS - 1 - p.place)) + 1) / 2
 }

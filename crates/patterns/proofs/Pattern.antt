@@ -21,13 +21,20 @@ pub zero_by_zero : div binary64 (of_bits binary64 0) (of_bits binary64 0) ≡ na
 unfolding div of_bits
 zero_by_zero = refl
 
--- ---- the patterns of NaN are those above the infinity's, the sign aside
-nan-of : (x : Float) → is_nan x ≡ true → x ≡ nan
+pub nan-of : (x : Float) → is_nan x ≡ true → x ≡ nan
 unfolding is_nan
 nan-of nan h = refl
 nan-of (inf s) h = absurd (subst T (sym h) tt)
 nan-of (fin s m e) h = absurd (subst T (sym h) tt)
 
+-- what `is_nan` answered b is the NaN, or none
+pub told-nan : {b : Bool} (x : Float) → b ≡ is_nan x → b ≡ true → x ≡ nan
+told-nan x e h = nan-of x (sym e ∙ h)
+
+pub told-not-nan : {b : Bool} (x : Float) → b ≡ is_nan x → b ≡ false → T (not (is_nan x))
+told-not-nan x e h = subst (λ (t : Bool). T (not t)) (sym h ∙ e) tt
+
+-- ---- the patterns of NaN are those above the infinity's, the sign aside
 pub nan-read : (b : ℕ) → 2047 * 2 ^ 52 < b % 2 ^ 63 → of_bits binary64 b ≡ nan
 nan-read b h =
     nan-of (of_bits binary64 b) (sym (nan_bits_is binary64 b) ∙ nan_bits_above binary64 b ∙ is_true (ltb (2047 * 2 ^ 52) (b % 2 ^ 63)) (lt→ltb (2047 * 2 ^ 52) (b % 2 ^ 63) h))

@@ -2,7 +2,6 @@
 -- `to_bits` and `of_bits` are that file's: any NaN is written 7ff8000000000000, and every NaN pattern is read as a NaN.
 use Rattle.std.specs.Prelude.{ℕ, ◌+◌, ◌-◌, ◌/◌, ◌%◌, ◌^◌, Bool, false, cond, ◌==◌, Float}
 use Rattle.std.specs.Float.{nan, inf, fin}
-use Rattle.patterns.specs.declared.Unpacked.{Unpacked}
 
 -- the sign bit; a NaN has none
 abbrev pub sign_bit : Float → Bool
@@ -23,6 +22,3 @@ digits b = cond (b % 2 ^ 63 / 2 ^ 52 == 0) (b % 2 ^ 52) (b % 2 ^ 52 + 2 ^ 52)
 
 abbrev pub place : ℕ → ℕ
 place b = b % 2 ^ 63 / 2 ^ 52 - 1
-
-abbrev pub unpacked : ℕ → Unpacked
-unpacked b = record { digits = digits b; place = place b }

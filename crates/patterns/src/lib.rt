@@ -1,11 +1,11 @@
 // Sign bit, magnitude, bit pattern and parts of a float.
 #![tactic(auto)]
 
-ghost use Rattle.std.specs.Prelude.{◌≡◌, from_bits, to_bits};
+ghost use Rattle.std.specs.Prelude.{◌≡◌, ◌^◌, ◌<◌, from_bits, to_bits};
 ghost use Rattle.std.specs.Float.{binary64};
 ghost use Rattle.patterns.specs.Bits as spec;
 
-// Products of two words, for the exact arithmetic above.
+// The product of two words, for the exact arithmetic above.
 pub mod words;
 
 // The weight of the sign bit in a pattern.
@@ -25,13 +25,15 @@ pub const FIELD: u64 = 0x10_0000_0000_0000;
 pub struct Unpacked {
     pub digits: u64,
     pub place: u64,
+    pub ghost digits_fit: { digits < 2 ^ 53 },
+    pub ghost place_fits: { place < 2047 },
 }
 
 // The bits of x; a NaN gives 7ff8000000000000.
 pub fn to_bits(x: f64) -> u64
     ensures { result ≡ to_bits binary64 x }
 {
-    if x != x {
+    if x.is_nan() {
         return NAN;
     }
     f64::to_bits(x)
@@ -51,7 +53,7 @@ pub fn from_bits(bits: u64) -> f64
 pub fn sign_bit(x: f64) -> bool
     ensures { result ≡ spec.sign_bit x }
 {
-    if x != x {
+    if x.is_nan() {
         return false;
     }
     f64::to_bits(x) >= SIGN
@@ -61,7 +63,7 @@ pub fn sign_bit(x: f64) -> bool
 pub fn magnitude(x: f64) -> f64
     ensures { result ≡ spec.magnitude x }
 {
-    if x != x {
+    if x.is_nan() {
         return x;
     }
     f64::from_bits(f64::to_bits(x) % SIGN)
@@ -69,7 +71,8 @@ pub fn magnitude(x: f64) -> f64
 
 // The significand, its leading digit included, and the place of a pattern's magnitude.
 pub fn unpack(bits: u64) -> Unpacked
-    ensures { result ≡ spec.unpacked bits }
+    ensures digits { result.digits ≡ spec.digits bits }
+    ensures place { result.place ≡ spec.place bits }
 {
     let field = bits % SIGN / FIELD;
     let low = bits % FIELD;

@@ -6,8 +6,7 @@ use lib.Ieee.{Float, nan, inf, fin, binary64, up, down, odd, round, rem, neg, of
 use lib.Ieee.Exact.{HasValue, odd_sign, round_exact}
 use lib.Ieee.Fits.{up_pos, down_pos, rem-fits}
 use lib.Ieee.Scale.{finite}
-use Rattle.patterns.specs.Bits.{magnitude, sign_bit, digits, place, unpacked}
-use Rattle.patterns.specs.declared.Unpacked.{Unpacked}
+use Rattle.patterns.specs.Bits.{magnitude, sign_bit, digits, place}
 use Rattle.patterns.proofs.Pattern.{Placed}
 use Rattle.patterns.proofs.Sign.{magnitude-of}
 use Rattle.patterns.proofs.Value.{same-value, field_lt, taken, parts-value}
@@ -174,8 +173,8 @@ rem-of-smaller x (fin s n d) f g _ t h =
     positive m n h = omega arith
 
 -- the remainder of two magnitudes by their parts, and a magnitude with a sign
-abbrev pub rem_parts : Unpacked → Unpacked → Float
-rem_parts a b = odd 53 false (a.digits * 2 ^ (a.place - b.place) % b.digits) b.place 1074
+abbrev pub rem_parts : ℕ → ℕ → ℕ → ℕ → Float
+rem_parts q k r j = odd 53 false (q * 2 ^ (k - j) % r) j 1074
 
 abbrev pub with_sign : Bool → Float → Float
 with_sign s x = cond s (neg x) x
@@ -188,12 +187,10 @@ odd-with-sign true (suc q) k = refl
 
 -- the magnitude of y is at most that of x, and not zero
 pub record Divides (x y : Float) : Type 0 where
-  pub dividend : digits_of x < 2 ^ 53
-  pub under : place_of x < 2046
   pub divisor : 0 < digits_of y
-  pub small : digits_of y < 2 ^ 53
+  pub under : place_of y < 2046
   pub order : place_of y ≤ place_of x
-  pub is : rem binary64 x y ≡ with_sign (sign_bit x) (rem_parts (unpacked (to_bits binary64 x)) (unpacked (to_bits binary64 y)))
+  pub is : rem binary64 x y ≡ with_sign (sign_bit x) (rem_parts (digits_of x) (place_of x) (digits_of y) (place_of y))
 
 pub rem-of-larger : (x y : Float) → T (fits binary64 x) → T (fits binary64 y) → T (finite x) → (to_bits binary64 y % 2 ^ 63 ≡ 0 → ⊥)
     → to_bits binary64 y % 2 ^ 63 ≤ to_bits binary64 x % 2 ^ 63 → Divides x y
@@ -214,10 +211,8 @@ rem-of-larger x y f g t z h =
     ∙ ap (λ (n : ℕ). n % units_of y) (ap (λ (n : ℕ). digits_of x * n) (pow-add 2 (place_of x - j) j) ∙ sym (mul_assoc (digits_of x) (2 ^ (place_of x - j)) (2 ^ j)))
     ∙ mul-mod-mul Q (digits_of y) (2 ^ j) D (pow_pos j) in
     record {
-      dividend = p.placed.small;
-      under = p.placed.under;
       divisor = D;
-      small = q.placed.small;
+      under = q.placed.under;
       order = o;
       is =
           same-value (rem binary64 x y) (odd 53 (sign_bit x) (Q % digits_of y) j 1074) (sign_bit x) (Q % digits_of y * 2 ^ j) (rem-fits binary64 x y f)

@@ -5,43 +5,47 @@ ghost use Rattle.std.specs.Prelude.{◌≡◌, ◌-◌, ◌*◌, ◌%◌, ◌^�
 ghost use Rattle.std.specs.Float.Ieee as Ieee;
 ghost use Rattle.std.specs.Float.{binary64};
 
-use crate::modular::shifted_rem;
+use crate::modular::Shifted;
 use patterns::{FIELD, INFINITY, SIGN, Unpacked, sign_bit, unpack};
 
 mod modular;
 
-// digits * 2^place units of 2^-1074 as a float: the digits are shifted up until one leads, or the place is used up.
-fn of_parts(digits: u64, place: u64) -> f64
-    requires { (digits < 2 ^ 53) × (place < 2046) }
-    ensures { result ≡ Ieee.odd 53 false digits place 1074 }
+// A magnitude's parts as a float: the digits are shifted up until one leads, or the place is used up.
+fn of_parts(p: Unpacked) -> f64
+    requires { p.place < 2046 }
+    ensures { result ≡ Ieee.odd 53 false p.digits p.place 1074 }
 {
-    if digits == 0 {
+    if p.digits == 0 {
         return 0.0;
     }
-    let room = (u64::leading_zeros(digits) as u64) - 11;
-    if room < place {
-        return f64::from_bits((place - room) * FIELD + (digits << room));
-    }
-    f64::from_bits(digits << place)
+    let room = u64::from(p.digits.leading_zeros()) - 11;
+    let shift = room.min(p.place);
+    f64::from_bits((p.place - shift) * FIELD + (p.digits << shift))
 }
 
 // The remainder of two magnitudes by their parts: both are whole numbers of 2^place units, with the place of b.
 fn rem_of_unpacked(a: Unpacked, b: Unpacked) -> f64
-    requires { (a.digits < 2 ^ 53) × (a.place < 2046) × (0 < b.digits) × (b.digits < 2 ^ 53) × (b.place ≤ a.place) }
+    requires { (0 < b.digits) × (b.place ≤ a.place) × (b.place < 2046) }
     ensures { result ≡ Ieee.odd 53 false (a.digits * 2 ^ (a.place - b.place) % b.digits) b.place 1074 }
 {
-    let place = b.place;
-    of_parts(shifted_rem(a.digits, a.place - place, b.digits), place)
+    let dividend = Shifted {
+        digits: a.digits,
+        shift: a.place - b.place,
+    };
+    of_parts(Unpacked {
+        digits: dividend.rem(b.digits),
+        place: b.place,
+    })
 }
 
 // x less y times the whole part of x / y: exact, with the sign of x.
 pub fn rem(x: f64, y: f64) -> f64
     ensures { result ≡ Ieee.rem binary64 x y }
 {
-    if x != x {
+    if x.is_nan() {
         return x;
     }
-    if y != y {
+    if y.is_nan() {
         return y;
     }
     let p = f64::to_bits(x);

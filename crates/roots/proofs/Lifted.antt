@@ -38,7 +38,7 @@ shift d k = zeros d - 11 + (leads d k + 1) % 2
 abbrev pub lifted : ℕ → ℕ → ℕ
 lifted d k = d * 2 ^ shift d k % 2 ^ 64
 
-module _ (d k : ℕ) (dp : 0 < d) (small : d < 2 ^ 53) (under : k < 2046) where
+module _ (d k : ℕ) (dp : 0 < d) (small : d < 2 ^ 53) (under : k < 2047) where
   shift_is : suc (top d dp small).0 + shift d k ≡ 53 + (leads d k + 1) % 2
   shift_is = let z = zeros-in d dp small in let b = (top d dp small).1 in omega arith
 

@@ -3,10 +3,10 @@ use mathlib.Core.Path.{◌≡◌, refl, sym, ap, ◌∙◌, subst}
 use Prim.Native.Nat.{ℕ, zero, suc, ◌+◌, ◌*◌, ◌/◌, ◌^◌, ◌<◌}
 use native.Mathlib.Nat.{lt_irrefl, zero-mul, mul-pos, mul-div_cancel, zero-lt-suc}
 use native.Mathlib.Omega.{arith}
-use mathlib.Core.Bool.{Bool, true, false, ◌&&◌, ◌||◌, beq, true≢false}
+use mathlib.Core.Bool.{Bool, true, false, ◌&&◌, ◌||◌, beq, not, true≢false}
 use lib.Dec.{T, eqb, ltb, eqb→eq, ltb→lt, lt→ltb}
 use lib.IntN.{ℤ}
-use lib.Ieee.{Float, nan, inf, fin, binary64, up, down, of_bits, to_bits, fits, eq, lt, ne}
+use lib.Ieee.{Float, nan, inf, fin, binary64, up, down, of_bits, to_bits, fits, eq, lt, is_nan}
 use lib.Ieee.Bits.{is_true, of_bits-to_bits}
 use lib.Ieee.Exact.{HasValue}
 use lib.Ieee.Fits.{down_pos, up_pos, and_l}
@@ -14,12 +14,11 @@ use lib.Ieee.Positive.{positive, positive-finite, first_pos, value_pos}
 use lib.Pow.{pow_pos}
 use Rattle.roots.specs.Root.{round_root, sqrt}
 use Rattle.patterns.specs.Bits.{digits, place}
-use Rattle.patterns.proofs.Pattern.{is-nan}
 use Rattle.patterns.proofs.Value.{HasParts, parts-value}
 
-pub at-nan : (x : Float) → ne x x ≡ true → sqrt x ≡ x
+pub at-nan : (x : Float) → x ≡ nan → sqrt x ≡ x
 unfolding sqrt
-at-nan x h = let e = is-nan x h in ap sqrt e ∙ sym e
+at-nan x e = ap sqrt e ∙ sym e
 
 -- ---- zero, as x == 0.0 tells it
 zero-units : (e : ℤ) → (0 * up e * 1 ≡ 0) × (0 * 1 * down e ≡ 0)
@@ -67,9 +66,9 @@ level-zero a b s p q = ap (λ (y : ℕ). eqb y b && (beq s false || eqb y 0)) p 
     last true = refl
     last false = refl
 
-pub left_over : (x : Float) → ne x x ≡ false → eq x (of_bits binary64 0) ≡ false → lt x (of_bits binary64 0) ≡ false → (to_bits binary64 x ≡ 2047 * 2 ^ 52 → ⊥) → T (positive x)
-unfolding ne eq lt of_bits to_bits
-left_over nan h k l n = absurd (true≢false h)
+pub left_over : (x : Float) → T (not (is_nan x)) → eq x (of_bits binary64 0) ≡ false → lt x (of_bits binary64 0) ≡ false → (to_bits binary64 x ≡ 2047 * 2 ^ 52 → ⊥) → T (positive x)
+unfolding is_nan eq lt of_bits to_bits
+left_over nan h k l n = absurd h
 left_over (inf true) h k l n = absurd (true≢false l)
 left_over (inf false) h k l n = absurd (n refl)
 left_over (fin s zero e) h k l n = let u = zero-units e in absurd (true≢false (sym (level-zero (0 * up e * 1) (0 * 1 * down e) s u.0 u.1) ∙ k))
@@ -91,8 +90,6 @@ of-units (fin false (suc m) e) a p v = ap (λ (y : ℕ). round_root (y / down e 
 -- q and k are the parts of a positive value
 pub record Rooted (x : Float) (q k : ℕ) : Type 0 where
   pub digits_pos : 0 < q
-  pub small : q < 2 ^ 53
-  pub under : k < 2046
   pub is : sqrt x ≡ round_root (q * 2 ^ k * 2 ^ 1074)
 
 own : (x : Float) (q k : ℕ) → T (positive x) → HasParts x q k → Rooted x q k
@@ -104,8 +101,6 @@ own (fin false m e) q k p h =
     record {
       digits_pos = first_pos q (2 ^ k)
           (value_pos x (q * 2 ^ k) (2 ^ 1074) p (pow_pos 1074) h.value);
-      small = h.placed.small;
-      under = h.placed.under;
       is = of-units x (q * 2 ^ k) p h.value;
     }
 

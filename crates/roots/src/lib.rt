@@ -4,23 +4,22 @@
 ghost use Rattle.std.specs.Prelude.{◌≡◌, ◌&&◌, not, ◌+◌, ◌-◌, ◌*◌, ◌/◌, ◌^◌, ◌≤◌, ◌<◌, leb};
 ghost use Rattle.roots.specs.Root as spec;
 
-use patterns::{FIELD, INFINITY, unpack};
+use patterns::{FIELD, INFINITY, Unpacked, unpack};
 
 // The whole part of the root of m * 2^54, digit by digit.
 fn root_by_digits(m: u64) -> u64
     requires { m < 2 ^ 54 }
     ensures { (result ≡ spec.whole_root (m * 2 ^ 54)) × (result < 2 ^ 54) }
 {
-    let mut bit: u64 = 0x40_0000_0000_0000;
     let mut root: u64 = 0;
     let mut rest: u64 = m;
-    while bit > 1 {
-        bit = bit / 2;
-        rest = rest * 2;
+    for place in (0..54u32).rev() {
+        let bit = 1 << place;
+        rest *= 2;
         let t = root * 2 + bit;
         if t <= rest {
-            rest = rest - t;
-            root = root + bit;
+            rest -= t;
+            root += bit;
         }
     }
     root
@@ -49,32 +48,17 @@ fn estimate(m: u64) -> u64
     let s = significand(m);
     let a = 0.5185546283489475 + s * (0.5260096907302437 - s * 0.03954011274601693);
     let d = newton(s, newton(s, newton(s, a)));
-    if d != d {
+    if d.is_nan() {
         return FIELD;
     }
     f64::to_bits(d) % FIELD + FIELD
 }
 
-// Whether the square of q is at most m * 2^54, by halves of 27 bits.
+// Whether the square of q is at most m * 2^54.
 fn at_most(q: u64, m: u64) -> bool
-    requires { q < 2 ^ 55 }
     ensures { result ≡ leb (q * q) (m * 2 ^ 54) }
 {
-    let a = q / 0x800_0000;
-    let b = q % 0x800_0000;
-    let low = b * b;
-    let mid = a * b * 2 + low / 0x800_0000;
-    let high = a * a + mid / 0x800_0000;
-    if high < m {
-        return true;
-    }
-    if high > m {
-        return false;
-    }
-    if mid % 0x800_0000 != 0 {
-        return false;
-    }
-    low % 0x800_0000 == 0
+    u128::from(q) * u128::from(q) <= u128::from(m) << 54
 }
 
 // Whether r is half the root of m * 2^54, to the nearest whole number: the root is from 2 r - 1 to below 2 r + 1.
@@ -104,22 +88,22 @@ fn half_root(m: u64) -> u64
 }
 
 // The root of digits * 2^place units. The digits are first shifted up by their leading zeros.
-fn root_of(digits: u64, place: u64) -> f64
-    requires { (0 < digits) × (digits < 2 ^ 53) × (place < 2046) }
-    ensures { result ≡ spec.round_root (digits * 2 ^ place * 2 ^ 1074) }
+fn root_of(p: Unpacked) -> f64
+    requires { 0 < p.digits }
+    ensures { result ≡ spec.round_root (p.digits * 2 ^ p.place * 2 ^ 1074) }
 {
-    let zeros = u64::leading_zeros(digits) as u64;
+    let zeros = u64::from(p.digits.leading_zeros());
     // digits << (zeros - 11) has 53 digits; one more makes the power of two that is left even
-    let top = place + 64 - zeros;
-    let m = digits << (zeros - 11 + (top + 1) % 2);
+    let top = p.place + 64 - zeros;
+    let m = p.digits << (zeros - 11 + (top + 1) % 2);
     f64::from_bits((top + 969) / 2 * FIELD + half_root(m))
 }
 
-// The square root: NaN for a NaN and below zero; -0, +0 and +infinity return.
+// The square root, by the integer root that document 01 asks for and not the machine's own: NaN for a NaN and below zero; -0, +0 and +infinity return.
 pub fn sqrt(x: f64) -> f64
     ensures { result ≡ spec.sqrt x }
 {
-    if x != x {
+    if x.is_nan() {
         return x;
     }
     if x == 0.0 {
@@ -132,6 +116,5 @@ pub fn sqrt(x: f64) -> f64
     if bits == INFINITY {
         return x;
     }
-    let p = unpack(bits);
-    root_of(p.digits, p.place)
+    root_of(unpack(bits))
 }

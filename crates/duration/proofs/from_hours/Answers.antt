@@ -19,17 +19,17 @@ returns-then-not-product c = let h = c.args.h in second-no (zero_or_more h) (pro
 pub half_away-requires : goal.half_away-requires
 unfolding of_bits of_int
 half_away-requires c =
-    let d = product-digits c.args.h c.to_bits.result c.unpack-p.result (ap not c.if-not-h.false)
-    (ap not c.if-not-product.false) c.to_bits.ensures c.unpack-p.ensures in
+    let d = product-digits c.args.h c.to_bits.result c.unpack.result (ap not c.if-not-h.false)
+    (ap not c.if-not-product.false) c.to_bits.ensures (record { its_digits = c.unpack.ensures.digits; its_place = c.unpack.ensures.place }) in
     let l = d.low in
-    (d.parts.placed.small, omega arith)
+    omega arith
 
 pub returns : goal.returns
 unfolding from_hours of_bits of_int
 returns c =
     let h = c.args.h in
-    let p = c.unpack-p.result in
+    let p = c.unpack.result in
     let x = (ap not c.if-not-h.false) in
     let y = (ap not c.if-not-product.false) in
-    let d = product-digits h c.to_bits.result p x y c.to_bits.ensures c.unpack-p.ensures in
+    let d = product-digits h c.to_bits.result p x y c.to_bits.ensures (record { its_digits = c.unpack.ensures.digits; its_place = c.unpack.ensures.place }) in
     both (zero_or_more h) (product_below h) c.half_away.result (product_nanoseconds h) x y (c.half_away.ensures ∙ whole_same (product h) p.digits p.place d.parts)

@@ -20,18 +20,18 @@ returns-then-not-t-2 c = let t = c.args.t in second-no (zero_or_more t) (below_l
 pub nearest_even-requires : goal.nearest_even-requires
 unfolding of_bits of_int
 nearest_even-requires c =
-    let d = seconds-digits c.args.t c.to_bits.result c.unpack-p.result (subst T (sym c.well_formed.0.1) tt)
-    (ap not c.if-not-t.false) (ap not c.if-not-t-2.false) c.to_bits.ensures c.unpack-p.ensures in
+    let d = seconds-digits c.args.t c.to_bits.result c.unpack.result (subst T (sym c.well_formed.0.1) tt)
+    (ap not c.if-not-t.false) (ap not c.if-not-t-2.false) c.to_bits.ensures (record { its_digits = c.unpack.ensures.digits; its_place = c.unpack.ensures.place }) in
     let l = d.low in
-    (d.parts.placed.small, omega arith)
+    omega arith
 
 pub returns : goal.returns
 unfolding from_seconds of_bits of_int
 returns c =
     let t = c.args.t in
-    let p = c.unpack-p.result in
+    let p = c.unpack.result in
     let x = (ap not c.if-not-t.false) in
     let y = (ap not c.if-not-t-2.false) in
     let d = seconds-digits t c.to_bits.result p (subst T (sym c.well_formed.0.1) tt) x y c.to_bits.ensures
-    c.unpack-p.ensures in
+    (record { its_digits = c.unpack.ensures.digits; its_place = c.unpack.ensures.place }) in
     both (zero_or_more t) (below_limit t) c.nearest_even.result (exact_nanoseconds t) x y (c.nearest_even.ensures ∙ seconds-same t p.digits p.place d.parts)

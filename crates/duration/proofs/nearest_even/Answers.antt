@@ -11,10 +11,10 @@ use Rattle.duration.proofs.Places.{one_shifted, high, under, none, at-ten, past-
 use Rattle.duration.proofs.nearest_even.Goals as goal
 
 pub returns-then-k-gt74 : goal.returns-then-k-gt74
-returns-then-k-gt74 c = sym (none c.args.digits c.args.place c.requires.0 c.requires.1 c.if-k-gt74.true)
+returns-then-k-gt74 c = sym (none c.args.p.digits c.args.p.place c.args.p.digits_fit c.requires c.if-k-gt74.true)
 
 pub returns-then-k-eq10 : goal.returns-then-k-eq10
-returns-then-k-eq10 c = c.settle.ensures ∙ sym (at-ten c.args.digits c.args.place c.requires.1 c.if-k-eq10.true)
+returns-then-k-eq10 c = c.settle.ensures ∙ sym (at-ten c.args.p.digits c.args.p.place c.requires c.if-k-eq10.true)
 
 -- the half's weight in `high`, as the code shifts it
 abbrev half : ℕ → ℕ
@@ -31,16 +31,16 @@ by-half d p rest l n h e =
 
 pub returns-then-high-half-eq0 : goal.returns-then-high-half-eq0
 returns-then-high-half-eq0 c =
-    let d = c.args.digits in
-    let z : high d % half c.args.place ≡ 0 = c.if-high-half-eq0.true in
-    let e : under d ≡ high d % half c.args.place * 1024 + under d = omega arith in
+    let d = c.args.p.digits in
+    let z : high d % half c.args.p.place ≡ 0 = c.if-high-half-eq0.true in
+    let e : under d ≡ high d % half c.args.p.place * 1024 + under d = omega arith in
     c.settle-then-high-half-eq0.ensures
-    ∙ by-half d c.args.place (not (eqb (under d) 0)) c.requires.1 c.if-k-eq10.false c.if-k-gt74.false (ap (λ (r : ℕ). not (eqb r 0)) e)
+    ∙ by-half d c.args.p.place (not (eqb (under d) 0)) c.requires c.if-k-eq10.false c.if-k-gt74.false (ap (λ (r : ℕ). not (eqb r 0)) e)
 
 pub returns : goal.returns
 returns c =
-    let d = c.args.digits in
-    let z : high d % half c.args.place ≡ 0 → ⊥ = c.if-high-half-eq0.false in
+    let d = c.args.p.digits in
+    let z : high d % half c.args.p.place ≡ 0 → ⊥ = c.if-high-half-eq0.false in
     c.settle-2.ensures
-    ∙ by-half d c.args.place true c.requires.1 c.if-k-eq10.false c.if-k-gt74.false
-    (sym (ap not (ne_eqb (high d % half c.args.place * 1024 + under d) 0 (λ e. z (omega arith)))))
+    ∙ by-half d c.args.p.place true c.requires c.if-k-eq10.false c.if-k-gt74.false
+    (sym (ap not (ne_eqb (high d % half c.args.p.place * 1024 + under d) 0 (λ e. z (omega arith)))))

@@ -1,28 +1,35 @@
 -- `root_by_digits` meets its contract.
-use mathlib.Core.Path.{◌≡◌, refl}
-use Prim.Native.Nat.{ℕ, ◌+◌, ◌*◌, ◌^◌, ◌≤◌, ◌<◌}
-use lib.Pow.{pow_pos}
+use mathlib.Core.Path.{◌≡◌, ◌∙◌, sym}
+use Prim.Native.Nat.{ℕ, ◌+◌, ◌-◌, ◌*◌, ◌%◌, ◌^◌, ◌≤◌, ◌<◌}
+use lib.Pow.{pow_pos, shl_exact}
 use Rattle.roots.specs.Root.{whole_root}
 use Rattle.roots.proofs.WholeRoot.{root-unique, whole-root}
 use native.Mathlib.Omega.{arith}
-use Rattle.roots.proofs.Digits.{digit-one-found, digit-zero-found, digits-found-are-root}
+use Rattle.roots.proofs.Digits.{halved, digit-one-found, digit-zero-found, digits-found-are-root}
 use Rattle.roots.proofs.root_by_digits.Goals as goal
 
-first : {bit root : ℕ} (j : ℕ) → bit ≡ 2 ^ j → root + bit ≤ 2 ^ 54 → root < 2 ^ 54
-first j e h = let p : 0 < 2 ^ j = pow_pos j in omega arith
+-- the weight of the next digit, as the code shifts it
+weight : (c : goal.In-loop-place) → 1 * 2 ^ (c.loop-place.place - 1) % 2 ^ 64 ≡ 2 ^ (c.loop-place.place - 1)
+weight c = shl_exact 1 (c.loop-place.place - 1) 64 (omega arith) (omega arith) ∙ omega arith
 
-pub loop-bit-init : goal.loop-bit-init
-loop-bit-init c = record { power = (54, refl); within = omega arith; less = omega arith; is = omega arith }
+pub loop-place-init : goal.loop-place-init
+loop-place-init c = record { within = omega arith; less = omega arith; is = omega arith }
 
-pub loop-bit-preserved-then-t-rest : goal.loop-bit-preserved-then-t-rest
-loop-bit-preserved-then-t-rest c = digit-one-found c.loop-bit.invariant c.loop-bit-test.true c.if-t-rest.true
+pub loop-place-preserved-then-t-rest : goal.loop-place-preserved-then-t-rest
+loop-place-preserved-then-t-rest c = digit-one-found c.loop-place.invariant c.loop-place-test.true (weight c.before) c.if-t-rest.true
 
-pub loop-bit-preserved : goal.loop-bit-preserved
-loop-bit-preserved c = digit-zero-found c.loop-bit.invariant c.loop-bit-test.true c.if-t-rest.false
+pub loop-place-preserved : goal.loop-place-preserved
+loop-place-preserved c = digit-zero-found c.loop-place.invariant c.loop-place-test.true (weight c.before) c.if-t-rest.false
+
+pub overflow_add-t : goal.overflow_add-t
+overflow_add-t c = let w = weight c in let h = halved c.loop-place.place c.loop-place-test.true in omega arith
+
+pub overflow_add-root : goal.overflow_add-root
+overflow_add-root c = let w = weight c.before in let h = halved c.loop-place.place c.loop-place-test.true in omega arith
 
 pub returns : goal.returns
 returns c =
-    let f = c.loop-bit.invariant in
     let n = c.args.m * 2 ^ 54 in
-    let b = digits-found-are-root f c.loop-bit-test.false in
-    (root-unique n c.loop-bit.root (whole_root n) (record { low = b.0; high = b.1 }) (whole-root n), first f.power.0 f.power.1 f.within)
+    let p = pow_pos c.loop-place.place in
+    let b = digits-found-are-root c.loop-place.invariant c.loop-place-test.false in
+    (root-unique n c.loop-place.root (whole_root n) (record { low = b.0; high = b.1 }) (whole-root n), omega arith)

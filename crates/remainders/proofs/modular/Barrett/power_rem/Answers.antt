@@ -2,7 +2,7 @@
 use Rattle.std.proofs.Common.{◌≡◌, ℕ, suc, ◌+◌, ◌-◌, ◌*◌, ◌/◌, ◌%◌, ◌^◌, ◌<◌, ◌≤◌, sym, ap, ◌∙◌, subst, lt_of_lt_of_le, le_of_suc-le-suc, le_of_lt, mod-lt, mod-eq_of_lt, one-mul, lt_of_not-le, not-le_of_lt, arith, pow_mono, shl_lt, shl_exact, shr-shr, shr_lt}
 use Rattle.remainders.proofs.Modulo.{squared}
 use Rattle.patterns.proofs.Leading.{zeros, top}
-use Rattle.remainders.proofs.modular.power_rem.Goals as goal
+use Rattle.remainders.proofs.modular.Barrett.power_rem.Goals as goal
 
 -- the six leading bits of k
 module _ (k : ℕ) (h : 64 ≤ k) (l : k < 2 ^ 53) where
@@ -38,30 +38,29 @@ overflow_sub-left c = zeros-le c.args.k c.requires.0 c.requires.1
 pub overflow_shl-power : goal.overflow_shl-power
 overflow_shl-power c = leading_lt c.args.k c.requires.0 c.requires.1
 
-pub loop-left-init : goal.loop-left-init
-loop-left-init c =
+pub loop-i-init : goal.loop-i-init
+loop-i-init c =
     let e = c.args.k / 2 ^ (58 - zeros c.args.k) in
     let l : e < 64 = leading_lt c.args.k c.requires.0 c.requires.1 in
-    (omega arith, ap (λ (n : ℕ). n % c.args.m) (shl_exact {a = 1} 1 e 64 (omega arith) (omega arith) ∙ one-mul (2 ^ e)))
+    ap (λ (n : ℕ). n % c.args.self.by.m) (shl_exact {a = 1} 1 e 64 (omega arith) (omega arith) ∙ one-mul (2 ^ e))
 
-power-lt : (c : goal.In-loop-left) → c.loop-left.power < 2 ^ 53
-power-lt c = lt_of_lt_of_le (subst (λ (n : ℕ). n < c.args.m) (sym c.loop-left.invariant.1) (mod-lt _ (omega arith))) (le_of_lt c.requires.3)
+power-lt : (c : goal.In-loop-i) → c.loop-i.power < 2 ^ 53
+power-lt c = let m = c.args.self.by in lt_of_lt_of_le (subst (λ (n : ℕ). n < m.m) (sym c.loop-i.invariant) (mod-lt _ (omega arith))) (le_of_lt m.fits)
 
 -- the bits of k that are taken after this step
-abbrev taken : goal.In-loop-left → ℕ
-taken c = c.args.k / 2 ^ (c.loop-left.left - 1)
+abbrev taken : goal.In-loop-i → ℕ
+taken c = c.args.k / 2 ^ (c.loop-i.i - 1)
 
-exact : (c : goal.In-loop-left) → c.loop-left.power * 2 ^ (taken c % 2) % 2 ^ 64 ≡ c.loop-left.power * 2 ^ (taken c % 2)
-exact c = mod-eq_of_lt (lt_of_lt_of_le (shifted-lt c.loop-left.power (taken c) (power-lt c)) (omega arith))
+exact : (c : goal.In-loop-i) → c.loop-i.power * 2 ^ (taken c % 2) % 2 ^ 64 ≡ c.loop-i.power * 2 ^ (taken c % 2)
+exact c = mod-eq_of_lt (lt_of_lt_of_le (shifted-lt c.loop-i.power (taken c) (power-lt c)) (omega arith))
 
 pub product_rem-power-requires : goal.product_rem-power-requires
-product_rem-power-requires c =
-    (subst (λ (n : ℕ). n < 2 ^ 54) (sym (exact c)) (shifted-lt c.loop-left.power (taken c) (power-lt c)), power-lt c, c.requires.2, c.requires.3, c.requires.4)
+product_rem-power-requires c = (subst (λ (n : ℕ). n < 2 ^ 54) (sym (exact c)) (shifted-lt c.loop-i.power (taken c) (power-lt c)), power-lt c)
 
-pub loop-left-preserved : goal.loop-left-preserved
-loop-left-preserved c =
-    let l = c.loop-left in
-    let m = c.args.m in
+pub loop-i-preserved : goal.loop-i-preserved
+loop-i-preserved c =
+    let l = c.loop-i in
+    let m = c.args.self.by.m in
     let e = taken c.before in
-    let p : l.power ≡ 2 ^ (e / 2) % m = l.invariant.1 ∙ ap (λ (n : ℕ). 2 ^ n % m) (sym (halved c.args.k l.left c.loop-left-test.true)) in
-    (omega arith, c.product_rem-power.ensures ∙ ap (λ (n : ℕ). n * l.power % m) (exact c.before) ∙ ap (λ (n : ℕ). n * 2 ^ (e % 2) * n % m) p ∙ squared e m)
+    let p : l.power ≡ 2 ^ (e / 2) % m = l.invariant ∙ ap (λ (n : ℕ). 2 ^ n % m) (sym (halved c.args.k l.i c.loop-i-test.true)) in
+    c.product_rem-power.ensures ∙ ap (λ (n : ℕ). n * l.power % m) (exact c.before) ∙ ap (λ (n : ℕ). n * 2 ^ (e % 2) * n % m) p ∙ squared e m

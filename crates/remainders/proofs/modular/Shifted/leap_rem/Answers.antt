@@ -4,7 +4,7 @@ use native.Mathlib.Nat.{mul-add-mod_self_right}
 use lib.Ieee.{Float, binary64, to_bits}
 use Rattle.patterns.proofs.Pattern.{not-nan}
 use Rattle.remainders.proofs.Modulo.{mod-mul, split-shift, leads}
-use Rattle.remainders.proofs.modular.leap_rem.Goals as goal
+use Rattle.remainders.proofs.modular.Shifted.leap_rem.Goals as goal
 
 -- p and r make up n * 2 ^ 43
 whole : (n p m r d : ℕ) → n < 2 ^ 62 → p < 2 ^ 105 → m < 2 ^ 53 → r < 2 * m → d < 2 ^ 13 → (r + p % 2 ^ 64) % 2 ^ 64 ≡ n * 2 ^ 43 % 2 ^ 64
@@ -28,18 +28,29 @@ lifted a k h = sym (split-shift a (k - 43) 43) ∙ ap (λ (n : ℕ). a * 2 ^ n) 
     back : (k : ℕ) → 43 ≤ k → k - 43 + 43 ≡ k
     back k h = omega arith
 
--- the digits modulo m
-reduced-lt : (a n m : ℕ) → a ≡ n % m → 2 ^ 52 ≤ m → m < 2 ^ 53 → a < 2 ^ 53
-reduced-lt a n m e l h = rw e (lt_of_lt_of_le (mod-lt n (omega arith)) (le_of_lt h))
+-- a wrapping difference and what was taken off it
+back : (x y : ℕ) → y < 2 ^ 64 → ((x % 2 ^ 64 + (2 ^ 64 - y)) % 2 ^ 64 + y) % 2 ^ 64 ≡ x % 2 ^ 64
+back x y h = omega arith
 
-reduced : (a n k m : ℕ) → a ≡ n % m → a * 2 ^ k % m ≡ n * 2 ^ k % m
-reduced a n k m e = ap (λ (x : ℕ). x * 2 ^ k % m) e ∙ mod-mul n (2 ^ k) m
+-- what the quotient q leaves, by the low words and by the high, of which h is the product's
+abbrev low : ℕ → ℕ → ℕ → ℕ → ℕ
+low a k m q = (a * 2 ^ k % 2 ^ 64 + (2 ^ 64 - q * m % 2 ^ 64)) % 2 ^ 64
 
-pub returns-then-d : goal.returns-then-d
-returns-then-d c = c.near_rem.ensures ∙ reduced _ c.args.digits c.args.k c.args.m c.less_once-a.ensures
+abbrev high : ℕ → ℕ → ℕ → ℕ
+high a k h = (a * 2 ^ (k - 43) % 2 ^ 64 + (2 ^ 64 - h)) % 2 ^ 64
 
-pub float_to_bits-quotient : goal.float_to_bits-quotient
-float_to_bits-quotient c = not-nan _ c.if-d.false
+-- both tests passed, the quotient and the low word make up the dividend
+made_up : (a k m q h : ℕ) → a < 2 ^ 53 → 43 ≤ k → k ≤ 52 → m < 2 ^ 53 → q < 2 ^ 52 → h ≡ q * m / 2 ^ 43 → low a k m q < 2 * m → high a k h < 2 ^ 13
+    → a * 2 ^ k ≡ q * m + low a k m q
+made_up a k m q h al kl ku ml ql i rl dl =
+    let e = lifted a k kl in
+    let top : 53 + (k - 43) ≤ 62 = omega arith in
+    let pl : q * m < 2 ^ 105 = lt_of_le_of_lt (mul-le-mul_left q (le_of_lt ml)) (shl_lt 52 53 ql) in
+    let hl : h < 2 ^ 64 = omega arith in
+    sym e
+    ∙ whole (a * 2 ^ (k - 43)) (q * m) m (low a k m q) (high a k h) (lt_of_lt_of_le (shl_lt 53 (k - 43) al) (pow_mono top)) pl ml rl dl
+    (back (a * 2 ^ k) (q * m % 2 ^ 64) (mod-lt (q * m) (pow_pos 64)) ∙ ap (λ (n : ℕ). n % 2 ^ 64) (sym e))
+    (ap (λ (v : ℕ). (high a k h + v) % 2 ^ 64) (sym i) ∙ back (a * 2 ^ (k - 43)) h hl)
 
 -- the quotient by the float d
 abbrev quotient : Float → ℕ → ℕ
@@ -48,37 +59,19 @@ quotient d k = to_bits binary64 d % 2 ^ 52 / 2 ^ (52 - k)
 quotient-lt : (d : Float) (k : ℕ) → quotient d k < 2 ^ 52
 quotient-lt d k = let b = to_bits binary64 d in lt_of_le_of_lt (div-le_self (b % 2 ^ 52) (2 ^ (52 - k))) (mod-lt b (pow_pos 52))
 
--- both tests passed, the quotient and the low word make up the dividend
-made_up : (c : goal.After-less_once)
-    → c.less_once-a.result * 2 ^ c.args.k ≡ quotient c.float_quotient-d.result c.args.k * c.args.m + c.wrapping_sub_u64-low.result
-made_up c =
-    let a = c.less_once-a.result in
-    let k = c.args.k in
-    let m = c.args.m in
-    let q = quotient c.float_quotient-d.result k in
-    let ql = quotient-lt c.float_quotient-d.result k in
-    let r = c.wrapping_sub_u64-low.result in
-    let d = c.wrapping_sub_u64-high.result in
-    let e = lifted a k c.requires.1 in
-    let top : 53 + (k - 43) ≤ 62 = omega arith in
-    sym e
-    ∙ whole (a * 2 ^ (k - 43)) (q * m) m r d
-    (lt_of_lt_of_le (shl_lt 53 (k - 43) (reduced-lt a c.args.digits m c.less_once-a.ensures c.requires.3 c.requires.4)) (pow_mono top))
-    (lt_of_le_of_lt (mul-le-mul_left q (le_of_lt c.requires.4)) (shl_lt 52 53 ql))
-    c.requires.4
-    c.if-low-m.true
-    c.if-high-lt8192.true
-    (ap (λ (v : ℕ). (r + v) % 2 ^ 64) (sym c.low_product.ensures) ∙ c.wrapping_sub_u64-low.ensures.value ∙ ap (λ (n : ℕ). n % 2 ^ 64) (sym e))
-    (ap (λ (v : ℕ). (d + v) % 2 ^ 64)
-    (sym (c.high_product.ensures ∙ leads q m (lt_of_lt_of_le ql (pow_mono {i = 52} {j = 54} (omega arith))) c.requires.4))
-    ∙ c.wrapping_sub_u64-high.ensures.value)
-
 pub returns-then-high-lt8192 : goal.returns-then-high-lt8192
 returns-then-high-lt8192 c =
-    let m = c.args.m in
+    let n = c.args.self.digits in
+    let k = c.args.self.shift in
+    let m = c.args.by in
+    let a = c.less_once-a.result in
+    let q = quotient c.float_quotient-d.result k in
+    let ql = quotient-lt c.float_quotient-d.result k in
+    let al : a < 2 ^ 53 = rw c.less_once-a.ensures (lt_of_lt_of_le (mod-lt n (omega arith)) (le_of_lt m.fits)) in
     c.less_once.ensures
-    ∙ sym (ap (λ (n : ℕ). n % m) (made_up c) ∙ mul-add-mod_self_right (quotient c.float_quotient-d.result c.args.k) m c.wrapping_sub_u64-low.result)
-    ∙ reduced _ c.args.digits c.args.k m c.less_once-a.ensures
-
-pub returns : goal.returns
-returns c = c.near_rem-2.ensures ∙ reduced _ c.args.digits c.args.k c.args.m c.less_once-a.ensures
+    ∙ sym (ap (λ (x : ℕ). x % m.m)
+    (made_up a k m.m q c.high_product.result al c.requires.0 c.requires.1 m.fits ql
+    (c.high_product.ensures ∙ leads q m.m (lt_of_lt_of_le ql (pow_mono {i = 52} {j = 54} (omega arith))) m.fits) c.if-low-by.true c.if-high-lt8192.true)
+    ∙ mul-add-mod_self_right q m.m (low a k m.m q))
+    ∙ ap (λ (x : ℕ). x * 2 ^ k % m.m) c.less_once-a.ensures
+    ∙ mod-mul n (2 ^ k) m.m

@@ -1,7 +1,7 @@
 -- `float_quotient` meets its contract: its patterns are no NaN's.
 use Rattle.std.proofs.Common.{arith}
 use Rattle.patterns.proofs.Pattern.{no_nan}
-use Rattle.remainders.proofs.modular.float_quotient.Goals as goal
+use Rattle.remainders.proofs.modular.Modulus.float_quotient.Goals as goal
 
 pub float_from_bits-result : goal.float_from_bits-result
 float_from_bits-result c = no_nan _ (omega arith)
