@@ -1,5 +1,6 @@
 -- One reduction of an angle, from which sine, cosine and both are taken. It serves the code alone: sine and cosine are those of Trig.
-use Rattle.std.specs.Prelude.{ℕ, Float}
+use Rattle.std.specs.Prelude.{ℕ, Float, List, [], ◌∷◌, fold}
+use Rattle.patterns.specs.Operators.{◌⊕◌, ◌⊗◌, whole}
 use Rattle.float.specs.Trig.{reduced, quarters, offset, sine_at, cosine_at}
 use Rattle.float.specs.declared.trig.Reduction.{Reduction}
 use Rattle.float.specs.declared.trig.SinCos.{SinCos}
@@ -11,3 +12,8 @@ reduce x = record { j = quarters (reduced x); y = offset (reduced x) (quarters (
 -- "Sine for j 0 to 4: S, C, -S, -C, S", "Cosine: C, -S, -C, S, C", of one j and one y
 abbrev pub both_at : ℕ → Float → SinCos
 both_at j y = record { sin = sine_at j y; cos = cosine_at j y }
+
+-- "Each Horner step is product, then sum": from the first of the coefficients over the others
+abbrev pub horner : List Float → Float → Float
+horner [] z = whole 0
+horner (a ∷ coefficients) z = fold (λ s c. s ⊗ z ⊕ c) a coefficients

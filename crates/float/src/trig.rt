@@ -1,5 +1,5 @@
 // Sine, cosine and atan2 in document 01's words, operation by operation.
-ghost use Rattle.std.specs.Prelude.{◌≡◌};
+ghost use Rattle.std.specs.Prelude.{◌≡◌, ◌<◌};
 ghost use Rattle.float.specs.Once as once;
 ghost use Rattle.float.specs.Trig as spec;
 
@@ -25,38 +25,80 @@ struct Reduction {
     y: f64,
 }
 
-// S: y times the Horner value in y * y of (-1)^k / (2k + 1)!, k from 8 down to 0.
+// (-1)^k / (2k + 1)!, k from 8 down to 0.
+const SINE: [f64; 9] = [
+    1.0 / 355687428096000.0,
+    -1.0 / 1307674368000.0,
+    1.0 / 6227020800.0,
+    -1.0 / 39916800.0,
+    1.0 / 362880.0,
+    -1.0 / 5040.0,
+    1.0 / 120.0,
+    -1.0 / 6.0,
+    1.0 / 1.0,
+];
+
+// (-1)^k / (2k)!, k from 9 down to 0.
+const COSINE: [f64; 10] = [
+    -1.0 / 6402373705728000.0,
+    1.0 / 20922789888000.0,
+    -1.0 / 87178291200.0,
+    1.0 / 479001600.0,
+    -1.0 / 3628800.0,
+    1.0 / 40320.0,
+    -1.0 / 720.0,
+    1.0 / 24.0,
+    -1.0 / 2.0,
+    1.0 / 1.0,
+];
+
+// (-1)^k / (2k + 1), k from 20 down to 0.
+const ARC: [f64; 21] = [
+    1.0 / 41.0,
+    -1.0 / 39.0,
+    1.0 / 37.0,
+    -1.0 / 35.0,
+    1.0 / 33.0,
+    -1.0 / 31.0,
+    1.0 / 29.0,
+    -1.0 / 27.0,
+    1.0 / 25.0,
+    -1.0 / 23.0,
+    1.0 / 21.0,
+    -1.0 / 19.0,
+    1.0 / 17.0,
+    -1.0 / 15.0,
+    1.0 / 13.0,
+    -1.0 / 11.0,
+    1.0 / 9.0,
+    -1.0 / 7.0,
+    1.0 / 5.0,
+    -1.0 / 3.0,
+    1.0 / 1.0,
+];
+
+// The Horner value in z of the coefficients, the highest power's first: product, then sum.
+fn horner<const N: usize>(coefficients: &[f64; N], z: f64) -> f64
+    ensures { result ≡ once.horner coefficients.now z }
+{
+    match coefficients.split_first() {
+        Some((first, rest)) => rest.iter().fold(*first, |s, c| s * z + *c),
+        None => 0.0,
+    }
+}
+
+// S: y times the Horner value in y * y.
 fn sine_series(y: f64) -> f64
     ensures { result ≡ spec.sine_series y }
 {
-    let z = y * y;
-    let mut s = 1.0 / 355687428096000.0;
-    s = s * z + -1.0 / 1307674368000.0;
-    s = s * z + 1.0 / 6227020800.0;
-    s = s * z + -1.0 / 39916800.0;
-    s = s * z + 1.0 / 362880.0;
-    s = s * z + -1.0 / 5040.0;
-    s = s * z + 1.0 / 120.0;
-    s = s * z + -1.0 / 6.0;
-    s = s * z + 1.0 / 1.0;
-    y * s
+    y * horner(&SINE, y * y)
 }
 
-// C: the Horner value in y * y of (-1)^k / (2k)!, k from 9 down to 0.
+// C: the Horner value in y * y.
 fn cosine_series(y: f64) -> f64
     ensures { result ≡ spec.cosine_series y }
 {
-    let z = y * y;
-    let mut s = -1.0 / 6402373705728000.0;
-    s = s * z + 1.0 / 20922789888000.0;
-    s = s * z + -1.0 / 87178291200.0;
-    s = s * z + 1.0 / 479001600.0;
-    s = s * z + -1.0 / 3628800.0;
-    s = s * z + 1.0 / 40320.0;
-    s = s * z + -1.0 / 720.0;
-    s = s * z + 1.0 / 24.0;
-    s = s * z + -1.0 / 2.0;
-    s * z + 1.0 / 1.0
+    horner(&COSINE, y * y)
 }
 
 // r: the magnitude less whole turns; a NaN for a NaN or an infinity.
@@ -193,33 +235,11 @@ pub fn cos(x: f64) -> f64
     cosine_at(a.j, a.y)
 }
 
-// u times the Horner value in u * u of (-1)^k / (2k + 1), k from 20 down to 0.
+// u times the Horner value in u * u.
 fn arc_series(u: f64) -> f64
     ensures { result ≡ spec.arc_series u }
 {
-    let z = u * u;
-    let mut s = 1.0 / 41.0;
-    s = s * z + -1.0 / 39.0;
-    s = s * z + 1.0 / 37.0;
-    s = s * z + -1.0 / 35.0;
-    s = s * z + 1.0 / 33.0;
-    s = s * z + -1.0 / 31.0;
-    s = s * z + 1.0 / 29.0;
-    s = s * z + -1.0 / 27.0;
-    s = s * z + 1.0 / 25.0;
-    s = s * z + -1.0 / 23.0;
-    s = s * z + 1.0 / 21.0;
-    s = s * z + -1.0 / 19.0;
-    s = s * z + 1.0 / 17.0;
-    s = s * z + -1.0 / 15.0;
-    s = s * z + 1.0 / 13.0;
-    s = s * z + -1.0 / 11.0;
-    s = s * z + 1.0 / 9.0;
-    s = s * z + -1.0 / 7.0;
-    s = s * z + 1.0 / 5.0;
-    s = s * z + -1.0 / 3.0;
-    s = s * z + 1.0 / 1.0;
-    u * s
+    u * horner(&ARC, u * u)
 }
 
 // The lesser over the greater: 0 where both are zero, 1 where both are infinite.
