@@ -1,5 +1,5 @@
 // Sine, cosine and atan2 in document 01's words, operation by operation.
-ghost use Rattle.std.specs.Prelude.{◌≡◌, ◌<◌};
+ghost use Rattle.std.specs.Prelude.{◌≡◌, Float};
 ghost use Rattle.float.specs.Once as once;
 ghost use Rattle.float.specs.Trig as spec;
 
@@ -152,30 +152,33 @@ fn reduce(x: f64) -> Reduction
     Reduction { j, y }
 }
 
+// What j quarter turns, 0 to 4, make of s with c the next: s, c, -s, -c, s. Of the two it works out the one that it gives.
+fn turned<S: Fn() -> f64, C: Fn() -> f64>(j: u8, s: S, c: C) -> f64
+    requires s { S.IsAlwaysCallable s }
+    requires c { C.IsAlwaysCallable c }
+    ensures { (a b : Float) → once.Gives (S.post s) a → once.Gives (C.post c) b → result ≡ once.turned j a b }
+{
+    match j {
+        0 => s(),
+        1 => c(),
+        2 => -s(),
+        3 => -c(),
+        _ => s(),
+    }
+}
+
 // Sine for j 0 to 4: S, C, -S, -C, S.
 fn sine_at(j: u8, y: f64) -> f64
     ensures { result ≡ spec.sine_at j y }
 {
-    match j {
-        0 => sine_series(y),
-        1 => cosine_series(y),
-        2 => -sine_series(y),
-        3 => -cosine_series(y),
-        _ => sine_series(y),
-    }
+    turned(j, || sine_series(y), || cosine_series(y))
 }
 
 // Cosine for j 0 to 4: C, -S, -C, S, C.
 fn cosine_at(j: u8, y: f64) -> f64
     ensures { result ≡ spec.cosine_at j y }
 {
-    match j {
-        0 => cosine_series(y),
-        1 => -sine_series(y),
-        2 => -cosine_series(y),
-        3 => sine_series(y),
-        _ => cosine_series(y),
-    }
+    turned(j, || cosine_series(y), || -sine_series(y))
 }
 
 // Both for j 0 to 4, from one S and one C.
@@ -184,12 +187,9 @@ fn both_at(j: u8, y: f64) -> SinCos
 {
     let s = sine_series(y);
     let c = cosine_series(y);
-    match j {
-        0 => SinCos { sin: s, cos: c },
-        1 => SinCos { sin: c, cos: -s },
-        2 => SinCos { sin: -s, cos: -c },
-        3 => SinCos { sin: -c, cos: s },
-        _ => SinCos { sin: s, cos: c },
+    SinCos {
+        sin: turned(j, || s, || c),
+        cos: turned(j, || c, || -s),
     }
 }
 
