@@ -187,10 +187,9 @@ fn both_at(j: u8, y: f64) -> SinCos
 {
     let s = sine_series(y);
     let c = cosine_series(y);
-    SinCos {
-        sin: turned(j, || s, || c),
-        cos: turned(j, || c, || -s),
-    }
+    let cos = turned(j, || c, || -s);
+    let sin = turned(j, || s, || c);
+    SinCos { sin, cos }
 }
 
 // Sine and cosine at once; NaNs for a NaN or an infinity.

@@ -10,6 +10,6 @@ pub returns : goal.returns
 returns c =
     let y = c.args.y in
     rw (
-      c.turned.ensures (sine_series y) (cosine_series y) (λ r p. search rules) (λ r p. search rules) ∙ sine-turned c.args.j y,
-      c.turned-2.ensures (cosine_series y) (neg (sine_series y)) (λ r p. search rules) (λ r p. search rules) ∙ cosine-turned c.args.j y,
+      c.turned-sin.ensures (sine_series y) (cosine_series y) (λ r p. search rules) (λ r p. search rules) ∙ sine-turned c.args.j y,
+      c.turned-cos.ensures (cosine_series y) (neg (sine_series y)) (λ r p. search rules) (λ r p. search rules) ∙ cosine-turned c.args.j y,
     )
