@@ -105,7 +105,7 @@ fn cosine_series(y: f64) -> f64
 fn reduced(x: f64) -> f64
     ensures { result ≡ spec.reduced x }
 {
-    if x != x {
+    if x.is_nan() {
         return x;
     }
     let a = magnitude(x);
@@ -207,7 +207,7 @@ pub fn sin_cos_into(x: f64, sin: &mut f64, cos: &mut f64)
     ensures { (sin.new ≡ spec.sin x) × (cos.new ≡ spec.cos x) }
 {
     // A NaN leaves first, so that no test for one lengthens the way of the others.
-    if x != x {
+    if x.is_nan() {
         *sin = x;
         *cos = x;
         return;
@@ -248,7 +248,7 @@ fn quotient(lesser: f64, greater: f64) -> f64
     if greater == 0.0 {
         return 0.0;
     }
-    if lesser == 1.0 / 0.0 {
+    if lesser == f64::INFINITY {
         return 1.0;
     }
     lesser / greater
@@ -292,11 +292,8 @@ fn subtracted_if(b: bool, c: f64, x: f64) -> f64
 pub fn atan2(y: f64, x: f64) -> f64
     ensures { result ≡ spec.atan2 y x }
 {
-    if y != y {
-        return 0.0 / 0.0;
-    }
-    if x != x {
-        return 0.0 / 0.0;
+    if y.is_nan() | x.is_nan() {
+        return f64::NAN;
     }
     let a = magnitude(y);
     let b = magnitude(x);
