@@ -1,53 +1,23 @@
--- `atan2` by its cases, put together from its parts, and held by binary64. Assumes nothing.
-use mathlib.Core.Path.{◌≡◌, refl, sym, ap, ◌∙◌}
-use mathlib.Core.Bool.{Bool, not, ◌||◌}
+-- `atan2` of two numbers, and that binary64 holds it. Assumes nothing.
+use mathlib.Core.Path.{◌≡◌, refl, sym}
+use mathlib.Core.Bool.{Bool, false, not, ◌||◌}
 use lib.Dec.{T}
-use lib.Ieee.{Float, nan, inf, fin, lt, is_nan, div, of_bits, of_int, binary64, fits}
+use lib.Ieee.{Float, nan, lt, is_nan, binary64, fits}
+use lib.Ieee.Bits.{is_false}
 use lib.Ieee.Fits.{cond-fits, nan-fits, neg-fits, add-fits, sub-fits}
 use Rattle.patterns.specs.Bits.{sign_bit, magnitude}
 use Rattle.patterns.specs.Operators.{◌⊕◌, ◌⊖◌, ◌⊘◌, whole, pi}
 use Rattle.float.specs.Trig.{atan2, negated_if, subtracted_if, arc_bound, arc, arc_series, ratio}
 
-pub nan_left : (x : Float) → div binary64 (of_bits binary64 0) (of_bits binary64 0) ≡ atan2 nan x
-unfolding atan2 div of_bits
-nan_left x = refl
-
-pub nan_right : (y : Float) → div binary64 (of_bits binary64 0) (of_bits binary64 0) ≡ atan2 y nan
-unfolding atan2 div of_bits
-nan_right nan = refl
-nan_right (inf s) = refl
-nan_right (fin s m e) = refl
+-- m and n say whether y and x are NaNs
+pub of-numbers : (y x : Float) {m n : Bool} → m ≡ is_nan y → n ≡ is_nan x → (m || n) ≡ false
+    → negated_if (sign_bit y) (subtracted_if (sign_bit x) pi (subtracted_if (lt (magnitude x) (magnitude y)) (pi ⊘ whole 2) (arc (ratio (magnitude y) (magnitude x))))) ≡ atan2 y x
+unfolding atan2
+of-numbers y x e f h = rw (← e, ← f, h)
 
 pub both : (y x : Float) → T (not (is_nan y)) → T (not (is_nan x))
     → atan2 y x ≡ negated_if (sign_bit y) (subtracted_if (sign_bit x) pi (subtracted_if (lt (magnitude x) (magnitude y)) (pi ⊘ whole 2) (arc (ratio (magnitude y) (magnitude x)))))
-unfolding atan2
-both nan x a b = absurd a
-both (inf s) nan a b = absurd b
-both (inf s) (inf t) a b = refl
-both (inf s) (fin t n d) a b = refl
-both (fin s m e) nan a b = absurd b
-both (fin s m e) (inf t) a b = refl
-both (fin s m e) (fin t n d) a b = refl
-
-two_is : of_bits binary64 0x4000000000000000 ≡ whole 2
-unfolding of_bits of_int
-two_is = refl
-
-pub assemble : (y x a b q t u v r : Float) (sx sy : Bool) → T (not (is_nan y)) → T (not (is_nan x))
-    → a ≡ magnitude y → b ≡ magnitude x → q ≡ ratio a b → t ≡ arc q → u ≡ subtracted_if (lt b a) (pi ⊘ of_bits binary64 0x4000000000000000) t
-    → sx ≡ sign_bit x → v ≡ subtracted_if sx pi u → sy ≡ sign_bit y → r ≡ negated_if sy v → r ≡ atan2 y x
-assemble y x a b q t u v r sx sy m n ha hb hq ht hu hx hv hy hr =
-    hr ∙ rw (
-      hv,
-      hy,
-      hu,
-      hx,
-      ht,
-      hq,
-      ha,
-      hb,
-    ) (ap (λ (w : Float). negated_if (sign_bit y)
-    (subtracted_if (sign_bit x) pi (subtracted_if (lt (magnitude x) (magnitude y)) (pi ⊘ w) (arc (ratio (magnitude y) (magnitude x)))))) two_is ∙ sym (both y x m n))
+both y x a b = sym (of-numbers y x refl refl (rw (is_false (is_nan y) a, is_false (is_nan x) b)))
 
 arc-fits : (t : Float) → T (fits binary64 (arc t))
 unfolding arc

@@ -1,24 +1,42 @@
--- The last arm of the choice by j, and what a NaN is reduced to. Assumes nothing.
-use mathlib.Core.Path.{◌≡◌, refl}
+-- What quarter turns make of sine and cosine, and what a NaN is reduced to. Assumes nothing.
+use Rattle.std.proofs.Common.{◌≡◌, refl, sym, ◌∙◌, subst, Bool, true, false, not, T, true≢false}
 use Prim.Native.Nat.{ℕ, zero, suc}
-use lib.Ieee.{Float, nan, rem}
+use lib.Ieee.{Float, nan, inf, fin, is_nan, neg, rem}
+use Rattle.float.specs.Once.{turned}
 use Rattle.float.specs.Trig.{reduced, sine_at, cosine_at, sine_series, cosine_series}
 
-pub sine-past : (j : ℕ) (y : Float) → (j ≡ 0 → ⊥) → (j ≡ 1 → ⊥) → (j ≡ 2 → ⊥) → (j ≡ 3 → ⊥) → sine_at j y ≡ sine_series y
-sine-past zero y a b c d = refl
-sine-past (suc zero) y a b c d = absurd (b refl)
-sine-past (suc (suc zero)) y a b c d = absurd (c refl)
-sine-past (suc (suc (suc zero))) y a b c d = absurd (d refl)
-sine-past (suc (suc (suc (suc j)))) y a b c d = refl
+neg-neg : (x : Float) → neg (neg x) ≡ x
+unfolding neg
+neg-neg nan = refl
+neg-neg (inf true) = refl
+neg-neg (inf false) = refl
+neg-neg (fin true m e) = refl
+neg-neg (fin false m e) = refl
 
-pub cosine-past : (j : ℕ) (y : Float) → (j ≡ 0 → ⊥) → (j ≡ 1 → ⊥) → (j ≡ 2 → ⊥) → (j ≡ 3 → ⊥) → cosine_at j y ≡ cosine_series y
-cosine-past zero y a b c d = refl
-cosine-past (suc zero) y a b c d = absurd (b refl)
-cosine-past (suc (suc zero)) y a b c d = absurd (c refl)
-cosine-past (suc (suc (suc zero))) y a b c d = absurd (d refl)
-cosine-past (suc (suc (suc (suc j)))) y a b c d = refl
+pub sine-turned : (j : ℕ) (y : Float) → turned j (sine_series y) (cosine_series y) ≡ sine_at j y
+sine-turned zero y = refl
+sine-turned (suc zero) y = refl
+sine-turned (suc (suc zero)) y = refl
+sine-turned (suc (suc (suc zero))) y = refl
+sine-turned (suc (suc (suc (suc j)))) y = refl
+
+pub cosine-turned : (j : ℕ) (y : Float) → turned j (cosine_series y) (neg (sine_series y)) ≡ cosine_at j y
+cosine-turned zero y = refl
+cosine-turned (suc zero) y = refl
+cosine-turned (suc (suc zero)) y = refl
+cosine-turned (suc (suc (suc zero))) y = neg-neg (sine_series y)
+cosine-turned (suc (suc (suc (suc j)))) y = refl
 
 -- ---- a NaN
+pub nan-of : {b : Bool} (x : Float) → b ≡ is_nan x → b ≡ true → x ≡ nan
+unfolding is_nan
+nan-of nan e h = refl
+nan-of (inf s) e h = absurd (true≢false (sym h ∙ e))
+nan-of (fin s m d) e h = absurd (true≢false (sym h ∙ e))
+
+pub no-nan : {b : Bool} (x : Float) → b ≡ is_nan x → b ≡ false → T (not (is_nan x))
+no-nan x e h = subst (λ (t : Bool). T (not t)) (sym h ∙ e) tt
+
 pub reduced-nan : reduced nan ≡ nan
 unfolding reduced rem
 reduced-nan = refl

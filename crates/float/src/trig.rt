@@ -1,5 +1,5 @@
 // Sine, cosine and atan2 in document 01's words, operation by operation.
-ghost use Rattle.std.specs.Prelude.{◌≡◌};
+ghost use Rattle.std.specs.Prelude.{◌≡◌, Float};
 ghost use Rattle.float.specs.Once as once;
 ghost use Rattle.float.specs.Trig as spec;
 
@@ -25,45 +25,87 @@ struct Reduction {
     y: f64,
 }
 
-// S: y times the Horner value in y * y of (-1)^k / (2k + 1)!, k from 8 down to 0.
+// (-1)^k / (2k + 1)!, k from 8 down to 0.
+const SINE: [f64; 9] = [
+    1.0 / 355687428096000.0,
+    -1.0 / 1307674368000.0,
+    1.0 / 6227020800.0,
+    -1.0 / 39916800.0,
+    1.0 / 362880.0,
+    -1.0 / 5040.0,
+    1.0 / 120.0,
+    -1.0 / 6.0,
+    1.0 / 1.0,
+];
+
+// (-1)^k / (2k)!, k from 9 down to 0.
+const COSINE: [f64; 10] = [
+    -1.0 / 6402373705728000.0,
+    1.0 / 20922789888000.0,
+    -1.0 / 87178291200.0,
+    1.0 / 479001600.0,
+    -1.0 / 3628800.0,
+    1.0 / 40320.0,
+    -1.0 / 720.0,
+    1.0 / 24.0,
+    -1.0 / 2.0,
+    1.0 / 1.0,
+];
+
+// (-1)^k / (2k + 1), k from 20 down to 0.
+const ARC: [f64; 21] = [
+    1.0 / 41.0,
+    -1.0 / 39.0,
+    1.0 / 37.0,
+    -1.0 / 35.0,
+    1.0 / 33.0,
+    -1.0 / 31.0,
+    1.0 / 29.0,
+    -1.0 / 27.0,
+    1.0 / 25.0,
+    -1.0 / 23.0,
+    1.0 / 21.0,
+    -1.0 / 19.0,
+    1.0 / 17.0,
+    -1.0 / 15.0,
+    1.0 / 13.0,
+    -1.0 / 11.0,
+    1.0 / 9.0,
+    -1.0 / 7.0,
+    1.0 / 5.0,
+    -1.0 / 3.0,
+    1.0 / 1.0,
+];
+
+// The Horner value in z of the coefficients, the highest power's first: product, then sum.
+fn horner<const N: usize>(coefficients: &[f64; N], z: f64) -> f64
+    ensures { result ≡ once.horner coefficients.now z }
+{
+    match coefficients.split_first() {
+        Some((first, rest)) => rest.iter().fold(*first, |s, c| s * z + *c),
+        None => 0.0,
+    }
+}
+
+// S: y times the Horner value in y * y.
 fn sine_series(y: f64) -> f64
     ensures { result ≡ spec.sine_series y }
 {
-    let z = y * y;
-    let mut s = 1.0 / 355687428096000.0;
-    s = s * z + -1.0 / 1307674368000.0;
-    s = s * z + 1.0 / 6227020800.0;
-    s = s * z + -1.0 / 39916800.0;
-    s = s * z + 1.0 / 362880.0;
-    s = s * z + -1.0 / 5040.0;
-    s = s * z + 1.0 / 120.0;
-    s = s * z + -1.0 / 6.0;
-    s = s * z + 1.0 / 1.0;
-    y * s
+    y * horner(&SINE, y * y)
 }
 
-// C: the Horner value in y * y of (-1)^k / (2k)!, k from 9 down to 0.
+// C: the Horner value in y * y.
 fn cosine_series(y: f64) -> f64
     ensures { result ≡ spec.cosine_series y }
 {
-    let z = y * y;
-    let mut s = -1.0 / 6402373705728000.0;
-    s = s * z + 1.0 / 20922789888000.0;
-    s = s * z + -1.0 / 87178291200.0;
-    s = s * z + 1.0 / 479001600.0;
-    s = s * z + -1.0 / 3628800.0;
-    s = s * z + 1.0 / 40320.0;
-    s = s * z + -1.0 / 720.0;
-    s = s * z + 1.0 / 24.0;
-    s = s * z + -1.0 / 2.0;
-    s * z + 1.0 / 1.0
+    horner(&COSINE, y * y)
 }
 
 // r: the magnitude less whole turns; a NaN for a NaN or an infinity.
 fn reduced(x: f64) -> f64
     ensures { result ≡ spec.reduced x }
 {
-    if x != x {
+    if x.is_nan() {
         return x;
     }
     let a = magnitude(x);
@@ -110,30 +152,33 @@ fn reduce(x: f64) -> Reduction
     Reduction { j, y }
 }
 
+// What j quarter turns, 0 to 4, make of s with c the next: s, c, -s, -c, s. Of the two it works out the one that it gives.
+fn turned<S: Fn() -> f64, C: Fn() -> f64>(j: u8, s: S, c: C) -> f64
+    requires s { S.IsAlwaysCallable s }
+    requires c { C.IsAlwaysCallable c }
+    ensures { (a b : Float) → once.Gives (S.post s) a → once.Gives (C.post c) b → result ≡ once.turned j a b }
+{
+    match j {
+        0 => s(),
+        1 => c(),
+        2 => -s(),
+        3 => -c(),
+        _ => s(),
+    }
+}
+
 // Sine for j 0 to 4: S, C, -S, -C, S.
 fn sine_at(j: u8, y: f64) -> f64
     ensures { result ≡ spec.sine_at j y }
 {
-    match j {
-        0 => sine_series(y),
-        1 => cosine_series(y),
-        2 => -sine_series(y),
-        3 => -cosine_series(y),
-        _ => sine_series(y),
-    }
+    turned(j, || sine_series(y), || cosine_series(y))
 }
 
 // Cosine for j 0 to 4: C, -S, -C, S, C.
 fn cosine_at(j: u8, y: f64) -> f64
     ensures { result ≡ spec.cosine_at j y }
 {
-    match j {
-        0 => cosine_series(y),
-        1 => -sine_series(y),
-        2 => -cosine_series(y),
-        3 => sine_series(y),
-        _ => cosine_series(y),
-    }
+    turned(j, || cosine_series(y), || -sine_series(y))
 }
 
 // Both for j 0 to 4, from one S and one C.
@@ -142,13 +187,9 @@ fn both_at(j: u8, y: f64) -> SinCos
 {
     let s = sine_series(y);
     let c = cosine_series(y);
-    match j {
-        0 => SinCos { sin: s, cos: c },
-        1 => SinCos { sin: c, cos: -s },
-        2 => SinCos { sin: -s, cos: -c },
-        3 => SinCos { sin: -c, cos: s },
-        _ => SinCos { sin: s, cos: c },
-    }
+    let cos = turned(j, || c, || -s);
+    let sin = turned(j, || s, || c);
+    SinCos { sin, cos }
 }
 
 // Sine and cosine at once; NaNs for a NaN or an infinity.
@@ -166,7 +207,7 @@ pub fn sin_cos_into(x: f64, sin: &mut f64, cos: &mut f64)
     ensures { (sin.new ≡ spec.sin x) × (cos.new ≡ spec.cos x) }
 {
     // A NaN leaves first, so that no test for one lengthens the way of the others.
-    if x != x {
+    if x.is_nan() {
         *sin = x;
         *cos = x;
         return;
@@ -193,33 +234,11 @@ pub fn cos(x: f64) -> f64
     cosine_at(a.j, a.y)
 }
 
-// u times the Horner value in u * u of (-1)^k / (2k + 1), k from 20 down to 0.
+// u times the Horner value in u * u.
 fn arc_series(u: f64) -> f64
     ensures { result ≡ spec.arc_series u }
 {
-    let z = u * u;
-    let mut s = 1.0 / 41.0;
-    s = s * z + -1.0 / 39.0;
-    s = s * z + 1.0 / 37.0;
-    s = s * z + -1.0 / 35.0;
-    s = s * z + 1.0 / 33.0;
-    s = s * z + -1.0 / 31.0;
-    s = s * z + 1.0 / 29.0;
-    s = s * z + -1.0 / 27.0;
-    s = s * z + 1.0 / 25.0;
-    s = s * z + -1.0 / 23.0;
-    s = s * z + 1.0 / 21.0;
-    s = s * z + -1.0 / 19.0;
-    s = s * z + 1.0 / 17.0;
-    s = s * z + -1.0 / 15.0;
-    s = s * z + 1.0 / 13.0;
-    s = s * z + -1.0 / 11.0;
-    s = s * z + 1.0 / 9.0;
-    s = s * z + -1.0 / 7.0;
-    s = s * z + 1.0 / 5.0;
-    s = s * z + -1.0 / 3.0;
-    s = s * z + 1.0 / 1.0;
-    u * s
+    u * horner(&ARC, u * u)
 }
 
 // The lesser over the greater: 0 where both are zero, 1 where both are infinite.
@@ -229,7 +248,7 @@ fn quotient(lesser: f64, greater: f64) -> f64
     if greater == 0.0 {
         return 0.0;
     }
-    if lesser == 1.0 / 0.0 {
+    if lesser == f64::INFINITY {
         return 1.0;
     }
     lesser / greater
@@ -273,11 +292,8 @@ fn subtracted_if(b: bool, c: f64, x: f64) -> f64
 pub fn atan2(y: f64, x: f64) -> f64
     ensures { result ≡ spec.atan2 y x }
 {
-    if y != y {
-        return 0.0 / 0.0;
-    }
-    if x != x {
-        return 0.0 / 0.0;
+    if y.is_nan() | x.is_nan() {
+        return f64::NAN;
     }
     let a = magnitude(y);
     let b = magnitude(x);

@@ -7,21 +7,21 @@ use Rattle.float.specs.Trig as spec
 use lib.Ieee.{Float, binary64, rem, of_int, of_bits, to_bits, is_nan, fits, mul}
 use lib.Ieee.Fits.{mul-fits}
 use Rattle.patterns.specs.Operators.{◌⊗◌, whole, pi}
-use Rattle.patterns.proofs.Pattern.{is-nan, not-nan}
 use Rattle.patterns.proofs.Sign.{magnitude-no-nan}
 use Rattle.remainders.proofs.Fmod.{rem-of-smaller, below-infinity}
-use Rattle.float.proofs.Turns.{reduced-nan}
+use Rattle.float.proofs.Turns.{nan-of, no-nan, reduced-nan}
 use Rattle.float.proofs.trig.reduced.Goals as goal
 
 -- a whole turn
 abbrev turn : Float
 turn = whole 2 ⊗ pi
 
-pub returns-then-x : goal.returns-then-x
-returns-then-x c = let e = is-nan c.args.x c.if-x.true in e ∙ sym (ap spec.reduced e ∙ reduced-nan)
+pub returns-then-is_nan : goal.returns-then-is_nan
+returns-then-is_nan c =
+    let e = nan-of c.args.x c.is_nan.ensures.value c.if-is_nan.true in e ∙ sym (ap spec.reduced e ∙ reduced-nan)
 
 pub float_to_bits-a : goal.float_to_bits-a
-float_to_bits-a c = rw c.magnitude-a.ensures (magnitude-no-nan c.args.x (not-nan c.args.x c.if-x.false))
+float_to_bits-a c = rw c.magnitude-a.ensures (magnitude-no-nan c.args.x (no-nan c.args.x c.is_nan.ensures.value c.if-is_nan.false))
 
 pub float_to_bits-t-6 : goal.float_to_bits-t-6
 unfolding mul of_bits is_nan

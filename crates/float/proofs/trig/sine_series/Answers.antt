@@ -1,8 +1,8 @@
 -- `sine_series` meets its contract.
 use mathlib.Core.Path.{refl}
-use lib.Ieee.{of_int, of_bits, neg}
+use lib.Ieee.{of_int, of_bits, neg, div}
 use Rattle.float.proofs.trig.sine_series.Goals as goal
 
 pub returns : goal.returns
-unfolding of_int of_bits neg
-returns c = refl
+unfolding of_int of_bits neg div
+returns c = rw c.horner.ensures refl

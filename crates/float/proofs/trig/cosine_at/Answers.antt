@@ -1,0 +1,12 @@
+-- `cosine_at` meets its contract.
+use mathlib.Core.Path.{◌∙◌}
+use Rattle.std.proofs.Common.{rules}
+use lib.Ieee.{neg}
+use Rattle.float.specs.Trig.{sine_series, cosine_series}
+use Rattle.float.proofs.Turns.{cosine-turned}
+use Rattle.float.proofs.trig.cosine_at.Goals as goal
+
+pub returns : goal.returns
+returns c =
+    let y = c.args.y in
+    c.turned.ensures (cosine_series y) (neg (sine_series y)) (λ r p. search rules) (λ r p. search rules) ∙ cosine-turned c.args.j y
