@@ -114,6 +114,7 @@ impl Shifted {
     {
         let mut rest = self.digits;
         let mut left = self.shift;
+        // A `for` would count its steps by a division first: a sine then takes 1.7 of the time.
         while left > 11 {
             rest = rest * 2048 % m;
             left -= 11;
