@@ -19,8 +19,10 @@ fn of_parts(p: Unpacked) -> f64
         return 0.0;
     }
     let room = u64::from(p.digits.leading_zeros()) - 11;
-    let shift = room.min(p.place);
-    f64::from_bits((p.place - shift) * FIELD + (p.digits << shift))
+    if room < p.place {
+        return f64::from_bits((p.place - room) * FIELD + (p.digits << room));
+    }
+    f64::from_bits(p.digits << p.place)
 }
 
 // The remainder of two magnitudes by their parts: both are whole numbers of 2^place units, with the place of b.

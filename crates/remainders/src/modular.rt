@@ -114,6 +114,7 @@ impl Shifted {
     {
         let mut rest = self.digits;
         let mut left = self.shift;
+        // A `for` would count its steps by a division first: a sine then takes 1.7 of the time.
         while left > 11 {
             rest = rest * 2048 % m;
             left -= 11;
@@ -160,21 +161,18 @@ impl Shifted {
         requires { 43 ≤ self.shift }
         ensures { result ≡ self.digits * 2 ^ self.shift % by.m }
     {
-        let k = self.shift;
-        if k <= 52 {
-            return self.leap_rem(by);
+        match self.shift {
+            ..=52 => self.leap_rem(by),
+            53..=63 => {
+                let leapt = Shifted {
+                    digits: self.digits,
+                    shift: 52,
+                };
+                (leapt.leap_rem(by) << (self.shift - 52)) % by.m
+            }
+            64..=87 => self.near_rem(by.m),
+            _ => self.far_rem(by),
         }
-        if k < 64 {
-            let leapt = Shifted {
-                digits: self.digits,
-                shift: 52,
-            };
-            return (leapt.leap_rem(by) << (k - 52)) % by.m;
-        }
-        if k < 88 {
-            return self.near_rem(by.m);
-        }
-        self.far_rem(by)
     }
 
     // By any m. Up to four steps are quickest; past them a short m is first shifted up with the dividend.

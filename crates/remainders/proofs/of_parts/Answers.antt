@@ -25,10 +25,7 @@ free p h = zeros-in p.digits (positive _ h) p.digits_fit
 pub overflow_sub-room : goal.overflow_sub-room
 overflow_sub-room c = omega (arith, free c.args.p c.if-p-eq0.false, c.from-room.ensures)
 
-pub overflow_shl-result : goal.overflow_shl-result
-overflow_shl-result c = omega (arith, free c.args.p c.if-p-eq0.false, c.from-room.ensures, c.min-shift.ensures)
-
--- the digits are shifted up by j, the room z - 11 or the place where that is less
+-- the digits are shifted up by j: the room, or the place where that is no more
 module _ (p : Unpacked) (some : p.digits ≡ 0 → ⊥) (under-top : p.place < 2046) (z j : ℕ) (e : z ≡ zeros p.digits) (f : j ≡ min (z - 11) p.place) where
   abbrev pattern : ℕ
   pattern = (p.place - j) * 2 ^ 52 + p.digits * 2 ^ j % 2 ^ 64
@@ -39,11 +36,28 @@ module _ (p : Unpacked) (some : p.digits ≡ 0 → ⊥) (under-top : p.place < 2
   same : of_bits binary64 pattern ≡ odd 53 false p.digits p.place 1074
   same = pattern-value p.digits (positive _ some) p.digits_fit p.place j under-top (omega arith) (omega arith) (λ (h : 0 < p.place - j). omega arith)
 
+-- no place is left
+used-up : (k n : ℕ) → (k - k) * 2 ^ 52 + n ≡ n
+used-up k n = omega arith
+
 pub overflow_add-result : goal.overflow_add-result
-overflow_add-result c = omega (arith, below c.args.p c.if-p-eq0.false c.requires c.from-room.result c.min-shift.result c.from-room.ensures c.min-shift.ensures)
+overflow_add-result c =
+    omega (arith, below c.args.p c.if-p-eq0.false c.requires c.from-room.result (c.from-room.result - 11) c.from-room.ensures (omega arith))
 
 pub float_from_bits-result : goal.float_from_bits-result
-float_from_bits-result c = no_nan _ (under _ (below c.args.p c.if-p-eq0.false c.requires c.from-room.result c.min-shift.result c.from-room.ensures c.min-shift.ensures))
+float_from_bits-result c =
+    no_nan _ (under _ (below c.args.p c.if-p-eq0.false c.requires c.from-room.result (c.from-room.result - 11) c.from-room.ensures (omega arith)))
+
+pub returns-then-room-p : goal.returns-then-room-p
+returns-then-room-p c = same c.args.p c.if-p-eq0.false c.requires c.from-room.result (c.from-room.result - 11) c.from-room.ensures (omega arith)
+
+pub float_from_bits-result-2 : goal.float_from_bits-result-2
+float_from_bits-result-2 c =
+    let p = c.args.p in
+    no_nan _ (under _ (rw (used-up p.place (p.digits * 2 ^ p.place % 2 ^ 64)) at (below p c.if-p-eq0.false c.requires c.from-room.result p.place c.from-room.ensures (omega arith))))
 
 pub returns : goal.returns
-returns c = same c.args.p c.if-p-eq0.false c.requires c.from-room.result c.min-shift.result c.from-room.ensures c.min-shift.ensures
+returns c =
+    let p = c.args.p in
+    ap (of_bits binary64) (sym (used-up p.place (p.digits * 2 ^ p.place % 2 ^ 64)))
+    ∙ same p c.if-p-eq0.false c.requires c.from-room.result p.place c.from-room.ensures (omega arith)
