@@ -2,7 +2,7 @@
 ghost use Rattle.std.specs.Prelude.{◌≡◌};
 ghost use Rattle.walks.specs.Outcome as spec;
 
-use duration::Converted;
+use duration::OutOfRange;
 use walks::{Outcome, Walk};
 
 // The outcome of a walk over seconds.
@@ -28,12 +28,12 @@ pub fn of_hours(w: Walk) -> Outcome
 }
 
 // The outcome of a time that was accepted at the count-th step, by its duration.
-fn of_converted(converted: Converted, count: u32) -> Outcome
+fn of_converted(converted: Result<u64, OutOfRange>, count: u32) -> Outcome
     ensures { result ≡ spec.of_converted converted count }
 {
     match converted {
-        Converted::Nanoseconds(nanoseconds) => Outcome::Found { nanoseconds, count },
-        Converted::Negative => Outcome::Negative { count },
-        Converted::TooLong => Outcome::TooLong { count },
+        Ok(nanoseconds) => Outcome::Found { nanoseconds, count },
+        Err(OutOfRange::Negative) => Outcome::Negative { count },
+        Err(OutOfRange::TooLong) => Outcome::TooLong { count },
     }
 }

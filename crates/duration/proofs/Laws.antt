@@ -7,7 +7,7 @@ use lib.Dec.{T, lit<}
 use lib.Ieee.{Float, le}
 use lib.Ieee.Nearest.{closest_mono, div_mono}
 use lib.Ieee.Positive.{num, den, den_pos}
-use Rattle.duration.specs.declared.Converted.TheVariants.{Nanoseconds}
+use Rattle.std.specs.Prelude.{Ok}
 use Rattle.duration.specs.Duration.{second, limit_nanoseconds, zero_or_more, below_limit, exact_nanoseconds, product, product_below}
 use Rattle.duration.specs.Duration.{product_nanoseconds, half_away, from_seconds, from_hours}
 use Rattle.duration.proofs.Order.{le-cross}
@@ -18,14 +18,14 @@ use Rattle.duration.proofs.Range.{within-limit, within-limit-nanoseconds}
 pub limit-nanoseconds-fits : limit_nanoseconds < 2 ^ 64
 limit-nanoseconds-fits = lit< tt
 
-pub seconds-bound : (t : Float) (n : ℕ) → from_seconds t ≡ Nanoseconds n → n ≤ limit_nanoseconds
+pub seconds-bound : (t : Float) (n : ℕ) → from_seconds t ≡ Ok n → n ≤ limit_nanoseconds
 unfolding from_seconds
 seconds-bound t n e =
     let f = found (zero_or_more t) (below_limit t) (exact_nanoseconds t) n e in
     let b = (within-limit t f.first f.second).below in
     subst (λ (m : ℕ). m ≤ limit_nanoseconds) f.is (closest_mono (num t * second) (den t) limit_nanoseconds 1 (den_pos t) (zero-lt-suc 0) (omega arith))
 
-pub hours-bound : (h : Float) (n : ℕ) → from_hours h ≡ Nanoseconds n → n ≤ limit_nanoseconds
+pub hours-bound : (h : Float) (n : ℕ) → from_hours h ≡ Ok n → n ≤ limit_nanoseconds
 unfolding from_hours
 hours-bound h n e =
     let f = found (zero_or_more h) (product_below h) (product_nanoseconds h) n e in
@@ -35,7 +35,7 @@ hours-bound h n e =
     (div_mono (2 * num p + den p) (2 * den p) (2 * limit_nanoseconds + 1) 2 (mul-pos (zero-lt-suc 1) (den_pos p)) (zero-lt-suc 1) (omega arith))
 
 -- ---- more seconds are no fewer nanoseconds
-pub seconds-mono : (s t : Float) (m n : ℕ) → T (le s t) → from_seconds s ≡ Nanoseconds m → from_seconds t ≡ Nanoseconds n → m ≤ n
+pub seconds-mono : (s t : Float) (m n : ℕ) → T (le s t) → from_seconds s ≡ Ok m → from_seconds t ≡ Ok n → m ≤ n
 unfolding from_seconds
 seconds-mono s t m n h a b =
     let f = found (zero_or_more s) (below_limit s) (exact_nanoseconds s) m a in

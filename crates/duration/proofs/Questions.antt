@@ -4,27 +4,29 @@ use Prim.Native.Nat.{ℕ}
 use native.Mathlib.Omega.{arith}
 use mathlib.Core.Bool.{Bool, true, false, not, true≢false}
 use lib.Dec.{T}
-use Rattle.duration.specs.declared.Converted.TheVariants.{Nanoseconds, Negative, TooLong}
+use Rattle.std.specs.Prelude.{Ok, Err}
+use Rattle.duration.specs.declared.OutOfRange.{OutOfRange}
+use Rattle.duration.specs.declared.OutOfRange.TheVariants.{Negative, TooLong}
 use Rattle.duration.specs.Duration.{asked}
 
 pub yes : (a : Bool) → not a ≡ false → T a
 yes true e = tt
 yes false e = absurd (true≢false e)
 
-pub first-no : (a b : Bool) (n : ℕ) → not a ≡ true → Negative ≡ asked a b n
+pub first-no : (a b : Bool) (n : ℕ) → not a ≡ true → Err Negative ≡ asked a b n
 unfolding asked
 first-no false b n e = refl
 first-no true b n e = absurd (true≢false (ap not e))
 
-pub second-no : (a b : Bool) (n : ℕ) → not a ≡ false → not b ≡ true → TooLong ≡ asked a b n
+pub second-no : (a b : Bool) (n : ℕ) → not a ≡ false → not b ≡ true → Err TooLong ≡ asked a b n
 unfolding asked
 second-no true false n e f = refl
 second-no true true n e f = absurd (true≢false (ap not f))
 second-no false b n e f = absurd (true≢false e)
 
-pub both : (a b : Bool) (m n : ℕ) → not a ≡ false → not b ≡ false → m ≡ n → Nanoseconds m ≡ asked a b n
+pub both : (a b : Bool) (m n : ℕ) → not a ≡ false → not b ≡ false → m ≡ n → Ok m ≡ asked a b n
 unfolding asked
-both true true m n e f h = ap Nanoseconds h
+both true true m n e f h = ap Ok h
 both true false m n e f h = absurd (true≢false f)
 both false b m n e f h = absurd (true≢false e)
 
@@ -33,7 +35,7 @@ pub record Found (a b : Bool) (n m : ℕ) : Type 0 where
   pub second : T b
   pub is : n ≡ m
 
-pub found : (a b : Bool) (n m : ℕ) → asked a b n ≡ Nanoseconds m → Found a b n m
+pub found : (a b : Bool) (n m : ℕ) → asked a b n ≡ Ok m → Found a b n m
 unfolding asked
 found true true n m e = record { first = tt; second = tt; is = cc }
 found true false n m e = let z : ◌≡◌ {A = ℕ} 0 1 = cc in let y : ⊥ = omega arith in absurd y

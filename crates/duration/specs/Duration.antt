@@ -1,13 +1,13 @@
 -- Durations, which are whole nanoseconds, from seconds and from hours, and back to seconds. Definitions only.
 -- Floats are the values of `lib.Ieee`. A finite one is the fraction `num` / `den` in size. `closest a b` is a / b to the nearest whole number,
--- a tie to the even one. A time that has no duration is answered by a variant of `Converted`, for which `number_of` gives document 01's number.
-use Rattle.std.specs.Prelude.{ℕ, ◌+◌, ◌*◌, ◌/◌, ◌%◌, ◌^◌, Bool, true, false, cond, eqb, Float}
+-- a tie to the even one. A time that has no duration is answered by an `Err`, and `number_of` gives document 01's number of each answer.
+use Rattle.std.specs.Prelude.{ℕ, ◌+◌, ◌*◌, ◌/◌, ◌%◌, ◌^◌, Bool, true, false, cond, eqb, Float, Result, Ok, Err}
 use Rattle.std.specs.Float.Ieee.{le, lt}
 use Rattle.std.specs.Float.Ieee.Nearest.{closest}
 use Rattle.std.specs.Float.Ieee.Positive.{num, den}
 use Rattle.patterns.specs.Operators.{◌⊕◌, ◌⊗◌, ◌⊘◌, whole}
-use Rattle.duration.specs.declared.Converted.{Converted}
-use Rattle.duration.specs.declared.Converted.TheVariants.{Nanoseconds, Negative, TooLong}
+use Rattle.duration.specs.declared.OutOfRange.{OutOfRange}
+use Rattle.duration.specs.declared.OutOfRange.TheVariants.{Negative, TooLong}
 
 -- ---- the numbers
 
@@ -34,22 +34,25 @@ abbrev pub zero_or_more : Float → Bool
 zero_or_more x = le (whole 0) x
 
 -- 'Is it zero or more? 14. Is it below 2^34 seconds? 15': the first no is the answer
-unfoldable pub asked : Bool → Bool → ℕ → Converted
-asked false below n = Negative
-asked true false n = TooLong
-asked true true n = Nanoseconds n
+unfoldable pub asked : Bool → Bool → ℕ → Result ℕ OutOfRange
+asked false below n = Err Negative
+asked true false n = Err TooLong
+asked true true n = Ok n
+
+-- the number of a no
+abbrev pub refusal_number : OutOfRange → ℕ
+refusal_number Negative = 14
+refusal_number TooLong = 15
 
 -- the number of an answer; 0 is done
-abbrev pub number_of : Converted → ℕ
-number_of (Nanoseconds n) = 0
-number_of Negative = 14
-number_of TooLong = 15
+abbrev pub number_of : Result ℕ OutOfRange → ℕ
+number_of (Ok n) = 0
+number_of (Err e) = refusal_number e
 
 -- the nanoseconds of an answer, '0 when refused'
-abbrev pub nanoseconds_of : Converted → ℕ
-nanoseconds_of (Nanoseconds n) = n
-nanoseconds_of Negative = 0
-nanoseconds_of TooLong = 0
+abbrev pub nanoseconds_of : Result ℕ OutOfRange → ℕ
+nanoseconds_of (Ok n) = n
+nanoseconds_of (Err e) = 0
 
 -- ---- the conversions
 
@@ -62,7 +65,7 @@ abbrev pub exact_nanoseconds : Float → ℕ
 exact_nanoseconds t = closest (num t * second) (den t)
 
 -- 'Seconds to nanoseconds'
-unfoldable pub from_seconds : Float → Converted
+unfoldable pub from_seconds : Float → Result ℕ OutOfRange
 unfolding asked
 from_seconds t = asked (zero_or_more t) (below_limit t) (exact_nanoseconds t)
 
@@ -83,7 +86,7 @@ abbrev pub product_nanoseconds : Float → ℕ
 product_nanoseconds h = half_away (num (product h)) (den (product h))
 
 -- 'Hours': zero or more is asked of the hours, the limit of the product
-unfoldable pub from_hours : Float → Converted
+unfoldable pub from_hours : Float → Result ℕ OutOfRange
 unfolding asked
 from_hours h = asked (zero_or_more h) (product_below h) (product_nanoseconds h)
 

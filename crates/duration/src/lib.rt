@@ -23,71 +23,55 @@ const LIMIT_NANOSECONDS: f64 = LIMIT * (SECOND as f64);
 // Digits at place 0 count units of 2^-UNITS.
 const UNITS: u64 = 1074;
 
-// A time as a duration, or why it is none.
+// Why a time is no duration, with document 01's numbers.
 #[derive(Clone, Copy)]
-pub enum Converted {
-    Nanoseconds(u64),
+pub enum OutOfRange {
     // Not zero or more, as a NaN is not.
-    Negative,
+    Negative = 14,
     // Not below 2^34 seconds.
-    TooLong,
+    TooLong = 15,
 }
 
-impl Converted {
-    // Document 01's number of the answer, 0 where there is a duration.
+impl OutOfRange {
+    // Document 01's number.
     pub fn number(self) -> u8
-        ensures { result ≡ spec.number_of self }
+        ensures { result ≡ spec.refusal_number self }
     {
-        match self {
-            Converted::Nanoseconds(_) => 0,
-            Converted::Negative => 14,
-            Converted::TooLong => 15,
-        }
-    }
-
-    // The duration in nanoseconds, 0 where there is none.
-    pub fn nanoseconds(self) -> u64
-        ensures { result ≡ spec.nanoseconds_of self }
-    {
-        match self {
-            Converted::Nanoseconds(n) => n,
-            Converted::Negative => 0,
-            Converted::TooLong => 0,
-        }
+        self as u8
     }
 }
 
 // The duration of t seconds: the exact value times 10^9, nearest, ties to even.
-pub fn from_seconds(t: f64) -> Converted
+pub fn from_seconds(t: f64) -> Result<u64, OutOfRange>
     ensures { result ≡ spec.from_seconds t }
 {
     if !(0.0 <= t) {
-        return Converted::Negative;
+        return Err(OutOfRange::Negative);
     }
     if !(t < LIMIT) {
-        return Converted::TooLong;
+        return Err(OutOfRange::TooLong);
     }
     let p = patterns::unpack(patterns::to_bits(t));
     let digits = p.digits;
     let place = p.place;
-    Converted::Nanoseconds(nearest_even(digits, place))
+    Ok(nearest_even(digits, place))
 }
 
 // The duration of h hours: the float product with 3.6e12, nearest, halves away from zero.
-pub fn from_hours(h: f64) -> Converted
+pub fn from_hours(h: f64) -> Result<u64, OutOfRange>
     ensures { result ≡ spec.from_hours h }
 {
     if !(0.0 <= h) {
-        return Converted::Negative;
+        return Err(OutOfRange::Negative);
     }
     let product = h * HOUR;
     if !(product < LIMIT_NANOSECONDS) {
-        return Converted::TooLong;
+        return Err(OutOfRange::TooLong);
     }
     let p = patterns::unpack(patterns::to_bits(product));
     let digits = p.digits;
     let place = p.place;
-    Converted::Nanoseconds(half_away(digits, place))
+    Ok(half_away(digits, place))
 }
 
 // A duration's seconds: whole seconds plus nanoseconds / 1e9.

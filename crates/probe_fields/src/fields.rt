@@ -1,6 +1,6 @@
 // The fields of a line: arguments read from their bits, and results written over a page. Where the page has no room, nothing is written.
 use arcs::Side;
-use duration::Converted;
+use duration::OutOfRange;
 use float::trig::SinCos;
 use jord::angle::Angle;
 use jord::positions::NVector;
@@ -119,14 +119,15 @@ pub fn put_gap(page: &mut [u8], at: usize) -> usize {
 }
 
 // 00 and the nanoseconds, or the number of the reason why there are none.
-pub fn put_converted(page: &mut [u8], at: usize, s: Converted) -> usize {
-    let number = s.number();
-    let told = put_short(page, at, number as u64);
-    if number != 0 {
-        return told;
+pub fn put_converted(page: &mut [u8], at: usize, converted: Result<u64, OutOfRange>) -> usize {
+    match converted {
+        Ok(nanoseconds) => {
+            let told = put_short(page, at, 0);
+            let next = put_gap(page, told);
+            put_whole(page, next, nanoseconds)
+        }
+        Err(refusal) => put_short(page, at, u64::from(refusal.number())),
     }
-    let next = put_gap(page, told);
-    put_whole(page, next, s.nanoseconds())
 }
 
 // The three parts of a vector.

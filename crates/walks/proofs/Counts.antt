@@ -13,8 +13,9 @@ use Rattle.jord.specs.declared.speed.Speed.{Speed}
 use Rattle.jord.specs.declared.vehicle.Vehicle.{Vehicle}
 use Rattle.jord.specs.declared.positions.NVector.{NVector}
 use Rattle.duration.specs.Duration.{from_seconds, from_hours}
-use Rattle.duration.specs.declared.Converted.{Converted}
-use Rattle.duration.specs.declared.Converted.TheVariants as converted
+use Rattle.std.specs.Prelude.{Result, Ok, Err}
+use Rattle.duration.specs.declared.OutOfRange.{OutOfRange}
+use Rattle.duration.specs.declared.OutOfRange.TheVariants as refused
 use Rattle.walks.specs.Walk.{most_steps, settle, walk, cpa_new, cpa_value, cpa_slope, cpa_step, cpa_start, one_milli_hours, chase_new, corrected}
 use Rattle.walks.specs.Walk.{int_min_step, spd_correction, int_spd_step, intercept_start}
 use Rattle.walks.specs.Outcome.{number_of, count_of, of_converted, of_walk}
@@ -121,17 +122,17 @@ module _ (f : Float → Step) where
 
 -- ---- "A count is the steps begun, 1 to 50"
 
-spanned : (s : Converted) (count : ℕ) → Counted count → Counted (count_of (of_converted s count))
-spanned (converted.Nanoseconds ns) count h = h
-spanned converted.Negative count h = h
-spanned converted.TooLong count h = h
+spanned : (s : Result ℕ OutOfRange) (count : ℕ) → Counted count → Counted (count_of (of_converted s count))
+spanned (Ok ns) count h = h
+spanned (Err refused.Negative) count h = h
+spanned (Err refused.TooLong) count h = h
 
-counted_of : (duration : Float → Converted) (f : Float → Step) (t : Float) (w : Walk) → Told f t w → Counted (count_of (of_walk duration w))
+counted_of : (duration : Float → Result ℕ OutOfRange) (f : Float → Step) (t : Float) (w : Walk) → Told f t w → Counted (count_of (of_walk duration w))
 counted_of duration f t (walked.Accepted u count) r = spanned (duration u) count r.counted
 counted_of duration f t (walked.ZeroDerivative count) r = r.counted
 counted_of duration f t walked.NotConverged r = record { some = omega arith; most = omega arith }
 
-pub counts : (duration : Float → Converted) (f : Float → Step) (t : Float) → Counted (count_of (of_walk duration (walk f most_steps t)))
+pub counts : (duration : Float → Result ℕ OutOfRange) (f : Float → Step) (t : Float) → Counted (count_of (of_walk duration (walk f most_steps t)))
 counts duration f t = counted_of duration f t (walk f most_steps t) (outcome-tells-steps f t)
 
 pub counts-cpa : (radius : Length) (own int : Vehicle) → Counted (count_of (time_to_cpa radius own int))
@@ -177,14 +178,14 @@ int-min-twelve : (k : Chase) (t : Float) → is_twelve (int_min_step k t) ≡ fa
 unfolding int_min_step
 int-min-twelve k t = simp (twelve-cond, corrected-twelve, cond_same)
 
-no-twelve-of : (duration : Float → Converted) (f : Float → Step) (t : Float) (w : Walk) → ((u : Float) → is_twelve (f u) ≡ false) → Told f t w
+no-twelve-of : (duration : Float → Result ℕ OutOfRange) (f : Float → Step) (t : Float) (w : Walk) → ((u : Float) → is_twelve (f u) ≡ false) → Told f t w
     → number_of (of_walk duration w) ≡ 12 → ⊥
 no-twelve-of duration f t (walked.Accepted u count) h r e = spans (duration u) e
   where
-    spans : (s : Converted) → number_of (of_converted s count) ≡ 12 → ⊥
-    spans (converted.Nanoseconds ns) e = omega arith
-    spans converted.Negative e = omega arith
-    spans converted.TooLong e = omega arith
+    spans : (s : Result ℕ OutOfRange) → number_of (of_converted s count) ≡ 12 → ⊥
+    spans (Ok ns) e = omega arith
+    spans (Err refused.Negative) e = omega arith
+    spans (Err refused.TooLong) e = omega arith
 no-twelve-of duration f t (walked.ZeroDerivative count) h r e = false≢true (sym (h _) ∙ ap is_twelve r.finds)
 no-twelve-of duration f t walked.NotConverged h r e = omega arith
 
@@ -204,17 +205,17 @@ no-twelve-longest radius p int =
 
 -- ---- a found time is the time of the step that its count names
 
-found_of : (duration : Float → Converted) (f : Float → Step) (t : Float) (w : Walk) (ns count : ℕ) → Told f t w → of_walk duration w ≡ Found ns count
+found_of : (duration : Float → Result ℕ OutOfRange) (f : Float → Step) (t : Float) (w : Walk) (ns count : ℕ) → Told f t w → of_walk duration w ≡ Found ns count
     → FoundAt duration f t ns count
 found_of duration f t (walked.Accepted u n) ns count r e = of-converted (duration u) refl e
   where
-    of-converted : (s : Converted) → duration u ≡ s → of_converted s n ≡ Found ns count → FoundAt duration f t ns count
-    of-converted (converted.Nanoseconds m) d e =
+    of-converted : (s : Result ℕ OutOfRange) → duration u ≡ s → of_converted s n ≡ Found ns count → FoundAt duration f t ns count
+    of-converted (Ok m) d e =
         let a : n ≡ count = cc in
         let b : m ≡ ns = cc in
-        record { time = u; ends = rw (← a) r; lasts = d ∙ ap converted.Nanoseconds b }
-    of-converted converted.Negative d e = let z : ◌≡◌ {A = ℕ} 0 1 = cc in absurd (zero_one z)
-    of-converted converted.TooLong d e = let z : ◌≡◌ {A = ℕ} 0 1 = cc in absurd (zero_one z)
+        record { time = u; ends = rw (← a) r; lasts = d ∙ ap Ok b }
+    of-converted (Err refused.Negative) d e = let z : ◌≡◌ {A = ℕ} 0 1 = cc in absurd (zero_one z)
+    of-converted (Err refused.TooLong) d e = let z : ◌≡◌ {A = ℕ} 0 1 = cc in absurd (zero_one z)
 found_of duration f t (walked.ZeroDerivative n) ns count r e = let z : ◌≡◌ {A = ℕ} 0 1 = cc in absurd (zero_one z)
 found_of duration f t walked.NotConverged ns count r e = let z : ◌≡◌ {A = ℕ} 0 1 = cc in absurd (zero_one z)
 
@@ -231,7 +232,7 @@ cpa-accepts k x u e =
     accepts-before (Ieee.eq (cpa_slope k x) literal.zero) (lt (magnitude m) one_milli_hours) x u (x ⊖ m) e
 
 pub found-cpa : (radius : Length) (own int : Vehicle) (ns count : ℕ) → time_to_cpa radius own int ≡ Found ns count
-    → from_hours (time_after (cpa_steps radius own int) cpa_start (count - 1)) ≡ converted.Nanoseconds ns
+    → from_hours (time_after (cpa_steps radius own int) cpa_start (count - 1)) ≡ Ok ns
 unfolding time_to_cpa
 found-cpa radius own int ns count e =
     let f = cpa_steps radius own int in

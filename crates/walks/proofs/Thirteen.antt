@@ -9,8 +9,9 @@ use lib.Ieee.{Float, lt}
 use Rattle.patterns.specs.Operators.{◌⊖◌, ◌⊘◌}
 use Rattle.patterns.specs.Bits.{magnitude}
 use Rattle.duration.specs.Duration.{from_seconds, from_hours}
-use Rattle.duration.specs.declared.Converted.{Converted}
-use Rattle.duration.specs.declared.Converted.TheVariants as converted
+use Rattle.std.specs.Prelude.{Result, Ok, Err}
+use Rattle.duration.specs.declared.OutOfRange.{OutOfRange}
+use Rattle.duration.specs.declared.OutOfRange.TheVariants as refused
 use Rattle.vectors.specs.Literal as literal
 use Rattle.jord.specs.declared.speed.Speed.{Speed}
 use Rattle.jord.specs.declared.vehicle.Vehicle.{Vehicle}
@@ -74,14 +75,14 @@ min-moves k t = (to, λ h. rw h.apart ((moves t (min_correction k t)).1 h.moves)
 
 -- ---- a walk says 13 exactly where fifty steps go on
 
-went_on : (duration : Float → Converted) (f : Float → Step) (t : Float) (w : Walk) → Told f t w → number_of (of_walk duration w) ≡ 13
+went_on : (duration : Float → Result ℕ OutOfRange) (f : Float → Step) (t : Float) (w : Walk) → Told f t w → number_of (of_walk duration w) ≡ 13
     → (i : ℕ) → i < most_steps → goes_on (f (time_after f t i)) ≡ true
 went_on duration f t (walked.Accepted u count) r e i l = absurd (spans (duration u) e)
   where
-    spans : (s : Converted) → number_of (of_converted s count) ≡ 13 → ⊥
-    spans (converted.Nanoseconds ns) e = omega arith
-    spans converted.Negative e = omega arith
-    spans converted.TooLong e = omega arith
+    spans : (s : Result ℕ OutOfRange) → number_of (of_converted s count) ≡ 13 → ⊥
+    spans (Ok ns) e = omega arith
+    spans (Err refused.Negative) e = omega arith
+    spans (Err refused.TooLong) e = omega arith
 went_on duration f t (walked.ZeroDerivative count) r e i l = absurd (twelve e)
   where
     twelve : ◌≡◌ {A = ℕ} 12 13 → ⊥
@@ -96,13 +97,13 @@ ended f t count s r e h =
     let most = r.counted.most in
     false≢true (sym e ∙ sym (ap goes_on r.finds) ∙ h (count - 1) (omega arith))
 
-spent : (duration : Float → Converted) (f : Float → Step) (t : Float) (w : Walk) → Told f t w
+spent : (duration : Float → Result ℕ OutOfRange) (f : Float → Step) (t : Float) (w : Walk) → Told f t w
     → ((i : ℕ) → i < most_steps → goes_on (f (time_after f t i)) ≡ true) → number_of (of_walk duration w) ≡ 13
 spent duration f t (walked.Accepted u count) r h = absurd (ended f t count (step.Accepted u) r refl h)
 spent duration f t (walked.ZeroDerivative count) r h = absurd (ended f t count step.ZeroDerivative r refl h)
 spent duration f t walked.NotConverged r h = refl
 
-means : (duration : Float → Converted) (f : Float → Step) (t : Float) (Moving : Float → Type 0) → ((u : Float) → goes_on (f u) ≡ true ↔ Moving u)
+means : (duration : Float → Result ℕ OutOfRange) (f : Float → Step) (t : Float) (Moving : Float → Type 0) → ((u : Float) → goes_on (f u) ≡ true ↔ Moving u)
     → number_of (of_walk duration (walk f most_steps t)) ≡ 13 ↔ ((i : ℕ) → i < most_steps → Moving (time_after f t i))
 means duration f t Moving m =
     let w = walk f most_steps t in (

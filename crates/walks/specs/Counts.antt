@@ -1,12 +1,11 @@
 -- What the laws of proofs/Counts and proofs/Thirteen say of the walks: which step a count names, and what that step found. Definitions only.
-use Rattle.std.specs.Prelude.{◌≡◌, Bool, true, false, ℕ, zero, suc, ◌+◌, ◌-◌, ◌≤◌, ◌<◌, Float}
+use Rattle.std.specs.Prelude.{◌≡◌, Bool, true, false, ℕ, zero, suc, ◌+◌, ◌-◌, ◌≤◌, ◌<◌, Float, Result, Ok}
 use Rattle.std.specs.Float.Ieee as Ieee
 use Rattle.std.specs.Float.Ieee.{lt}
 use Rattle.patterns.specs.Operators.{◌⊖◌, ◌⊘◌}
 use Rattle.patterns.specs.Bits.{magnitude}
 use Rattle.vectors.specs.Literal as literal
-use Rattle.duration.specs.declared.Converted.{Converted}
-use Rattle.duration.specs.declared.Converted.TheVariants.{Nanoseconds}
+use Rattle.duration.specs.declared.OutOfRange.{OutOfRange}
 use Rattle.walks.specs.Walk.{most_steps, one_milli_hours, cpa_value, cpa_slope, sep, intercept_epsilon, min_correction, spd_correction}
 use Rattle.walks.specs.declared.Cpa.{Cpa}
 use Rattle.walks.specs.declared.Chase.{Chase}
@@ -50,10 +49,10 @@ Told f t (walked.ZeroDerivative count) = Ends f t count step.ZeroDerivative
 Told f t walked.NotConverged = (i : ℕ) → i < most_steps → goes_on (f (time_after f t i)) ≡ true
 
 -- the step of this count accepts a time whose duration is ns nanoseconds
-pub record FoundAt (duration : Float → Converted) (f : Float → Step) (t : Float) (ns count : ℕ) : Type 0 where
+pub record FoundAt (duration : Float → Result ℕ OutOfRange) (f : Float → Step) (t : Float) (ns count : ℕ) : Type 0 where
   pub time : Float
   pub ends : Ends f t count (step.Accepted time)
-  pub lasts : duration time ≡ Nanoseconds ns
+  pub lasts : duration time ≡ Ok ns
 
 -- ---- request 2026-05: "Number 13 then means fifty steps in which no test of that walk passed"
 

@@ -1,8 +1,8 @@
 -- What a walk comes to in the answer: document 01's numbers 12 to 15, with the count and the nanoseconds of each. Definitions only.
-use Rattle.std.specs.Prelude.{ℕ, Float}
+use Rattle.std.specs.Prelude.{ℕ, Float, Result, Ok, Err}
 use Rattle.duration.specs.Duration.{from_seconds, from_hours}
-use Rattle.duration.specs.declared.Converted.{Converted}
-use Rattle.duration.specs.declared.Converted.TheVariants as converted
+use Rattle.duration.specs.declared.OutOfRange.{OutOfRange}
+use Rattle.duration.specs.declared.OutOfRange.TheVariants as refused
 use Rattle.walks.specs.Walk.{most_steps}
 use Rattle.walks.specs.declared.Walk.{Walk}
 use Rattle.walks.specs.declared.Walk.TheVariants as walked
@@ -34,13 +34,13 @@ nanoseconds_of (Negative count) = 0
 nanoseconds_of (TooLong count) = 0
 
 -- "Is it zero or more? 14. Is it below 2^34 seconds? 15": as the time's duration answers them
-abbrev pub of_converted : Converted → ℕ → Outcome
-of_converted (converted.Nanoseconds ns) count = Found ns count
-of_converted converted.Negative count = Negative count
-of_converted converted.TooLong count = TooLong count
+abbrev pub of_converted : Result ℕ OutOfRange → ℕ → Outcome
+of_converted (Ok ns) count = Found ns count
+of_converted (Err refused.Negative) count = Negative count
+of_converted (Err refused.TooLong) count = TooLong count
 
 -- "`newton_raphson`: is the derivative other than zero? 12. Walk: was a time accepted within 50 steps? 13", then 14 and 15
-abbrev pub of_walk : (Float → Converted) → Walk → Outcome
+abbrev pub of_walk : (Float → Result ℕ OutOfRange) → Walk → Outcome
 of_walk duration (walked.Accepted t count) = of_converted (duration t) count
 of_walk duration (walked.ZeroDerivative count) = ZeroDerivative count
 of_walk duration walked.NotConverged = NotConverged
