@@ -50,7 +50,7 @@ impl GreatCircle {
     {
         let v = p.as_vec3();
         let n2 = v.stable_cross_prod_unit(self.normal);
-        if n2.eq(Vec3::ZERO) {
+        if n2 == Vec3::ZERO {
             return NVector::new(v.orthogonal());
         }
         NVector::new(self.normal.orthogonal_to(n2))

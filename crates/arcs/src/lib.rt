@@ -11,10 +11,10 @@ pub mod minor_arc;
 // Where a point lies with respect to a great circle.
 #[derive(Clone, Copy)]
 pub enum Side {
-    Left,
-    Right,
+    Left = 0,
+    Right = 1,
     // The point is on the great circle, within EPSILON.
-    Collinear,
+    Collinear = 2,
 }
 
 impl Side {
@@ -22,10 +22,6 @@ impl Side {
     pub fn number(self) -> u8
         ensures { result ≡ side_number self }
     {
-        match self {
-            Side::Left => 0,
-            Side::Right => 1,
-            Side::Collinear => 2,
-        }
+        self as u8
     }
 }

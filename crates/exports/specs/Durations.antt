@@ -1,10 +1,8 @@
 -- What a call leaves in the number that it is lent for the nanoseconds of a duration. Definitions only.
-use Rattle.std.specs.Prelude.{ℕ}
-use Rattle.duration.specs.declared.Converted.{Converted}
-use Rattle.duration.specs.declared.Converted.TheVariants.{Nanoseconds, Negative, TooLong}
+use Rattle.std.specs.Prelude.{ℕ, Result, Ok, Err}
+use Rattle.duration.specs.declared.OutOfRange.{OutOfRange}
 
 -- "A refused call .. leaves .. lent memory as before": the nanoseconds of the answer, or what stood there where there are none
-unfoldable pub stored : Converted → ℕ → ℕ
-stored (Nanoseconds n) before = n
-stored Negative before = before
-stored TooLong before = before
+abbrev pub stored : Result ℕ OutOfRange → ℕ → ℕ
+stored (Ok n) before = n
+stored (Err e) before = before

@@ -3,19 +3,18 @@ ghost use Rattle.std.specs.Prelude.{◌≡◌};
 ghost use Rattle.duration.specs.Duration as duration;
 ghost use Rattle.exports.specs.Durations.{stored};
 
-use duration::Converted;
+use duration::OutOfRange;
 
 // Stores the nanoseconds of an answer, if it has them, and gives its number.
-fn store(s: Converted, nanoseconds: &mut u64) -> u8
+fn store(s: Result<u64, OutOfRange>, nanoseconds: &mut u64) -> u8
     ensures { (result ≡ duration.number_of s) × (nanoseconds.new ≡ stored s nanoseconds.old) }
 {
     match s {
-        Converted::Nanoseconds(n) => {
+        Ok(n) => {
             *nanoseconds = n;
             0
         }
-        Converted::Negative => s.number(),
-        Converted::TooLong => s.number(),
+        Err(e) => e.number(),
     }
 }
 

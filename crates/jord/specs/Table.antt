@@ -1,13 +1,21 @@
--- Rows of document 01's table that concern this crate, and the working of the constants that are given by their bits.
+-- Rows of document 01's table that concern this crate, the working of the constants that are given by their bits, the code's constants, and what `==` is.
 use Rattle.std.specs.Prelude.{◌≡◌, refl, true, false, pos, negsuc}
 use Rattle.std.specs.Float.Ieee as Ieee
 use Rattle.std.specs.Float.{fin}
 use Rattle.std.specs.Float.Ieee.{neg, of_bits, of_int}
 use Rattle.patterns.specs.Operators.{◌⊗◌, ◌⊘◌, pi, whole}
 use Rattle.jord.specs.Numbers.{EPSILON, eq_zero}
-use Rattle.jord.specs.Angle.{from_radians, QUARTER_CIRCLE, NEG_QUARTER_CIRCLE, NEG_HALF_CIRCLE, FULL_CIRCLE, normalised, normalised_to}
-use Rattle.jord.specs.Length.{NM_TO_M, KM_TO_M}
+use Rattle.jord.specs.Angle as angle
+use Rattle.jord.specs.Angle.{from_radians, QUARTER_CIRCLE, NEG_QUARTER_CIRCLE, NEG_HALF_CIRCLE, FULL_CIRCLE, DBL_EPSILON, normalised, normalised_to}
+use Rattle.jord.specs.Length.{NM_TO_M, KM_TO_M, ZERO, MAX}
+use Rattle.jord.specs.Positions as positions
 use Rattle.jord.specs.Speed.{KPH_TO_MPS, KNOTS_TO_MPS}
+use Rattle.jord.specs.contracts.angle.AnglePartialEq.TheImpl as derived_angle
+use Rattle.jord.specs.contracts.positions.NVectorPartialEq.TheImpl as derived_nvector
+use Rattle.jord.specs.declared.angle.Angle.{Angle}
+use Rattle.jord.specs.declared.angle.TheConstants.Angle as code_angle
+use Rattle.jord.specs.declared.length.TheConstants.Length as code_length
+use Rattle.jord.specs.declared.positions.NVector.{NVector}
 
 -- "`eq_zero`: 2^-52 yes, 2^-51 no"
 pub eq_zero_yes : eq_zero (fin false 1 (negsuc 51)) ≡ true
@@ -65,3 +73,23 @@ kph-to-mps = refl
 pub knots-to-mps : KNOTS_TO_MPS ≡ whole 1852 ⊘ whole 3600
 unfolding Ieee.div of_bits of_int
 knots-to-mps = refl
+
+-- ---- the constants of the code that no function uses
+pub the-neg-half-circle : code_angle.NEG_HALF_CIRCLE ≡ NEG_HALF_CIRCLE
+the-neg-half-circle = refl
+
+pub the-dbl-epsilon : code_angle.DBL_EPSILON ≡ DBL_EPSILON
+the-dbl-epsilon = refl
+
+pub no-length : code_length.ZERO ≡ ZERO
+no-length = refl
+
+pub greatest-length : code_length.MAX ≡ MAX
+greatest-length = refl
+
+-- ---- the functions that `==` answers by
+pub same-angles : (a o : Angle) → derived_angle.ghosts.eq a o ≡ angle.eq a o
+same-angles a o = refl
+
+pub same-positions : (p o : NVector) → derived_nvector.ghosts.eq p o ≡ positions.eq p o
+same-positions p o = refl

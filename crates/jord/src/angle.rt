@@ -8,8 +8,8 @@ use float::trig::PI;
 use patterns::magnitude;
 use remainders::rem;
 
-// An angle.
-#[derive(Clone, Copy)]
+// An angle; two are the same where their radians are: the source's `==`.
+#[derive(Clone, Copy, PartialEq)]
 pub struct Angle {
     pub radians: f64,
 }
@@ -107,12 +107,5 @@ impl Angle {
         Angle {
             radians: self.radians * rhs,
         }
-    }
-
-    // Whether the two are the same number: the source's `==`.
-    pub fn eq(self, o: Angle) -> bool
-        ensures { result ≡ spec.eq self o }
-    {
-        self.radians == o.radians
     }
 }

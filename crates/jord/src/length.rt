@@ -10,6 +10,7 @@ pub struct Length {
     pub metres: f64,
 }
 
+// The units have functions of their own, as in the source: each is one product or quotient, which a shared one would only name again.
 impl Length {
     const FT_TO_M: f64 = 0.3048;
 

@@ -2,7 +2,6 @@
 #![tactic(auto)]
 
 pub mod angle;
-mod constants;
 pub mod length;
 pub mod numbers;
 pub mod positions;

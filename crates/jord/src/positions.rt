@@ -64,8 +64,8 @@ impl LatLong {
     }
 }
 
-// A position by the unit vector normal to the surface: z points to the north pole, x to latitude and longitude zero.
-#[derive(Clone, Copy)]
+// A position by the unit vector normal to the surface: z points to the north pole, x to latitude and longitude zero; two are the same where each part is: the source's `==`.
+#[derive(Clone, Copy, PartialEq)]
 pub struct NVector(Vec3);
 
 impl NVector {
@@ -104,7 +104,7 @@ impl NVector {
     pub fn is_antipode_of(self, o: NVector) -> bool
         ensures { result ≡ spec.is_antipode_of self o }
     {
-        self.0.add(o.0).eq(Vec3::ZERO)
+        self.0.add(o.0) == Vec3::ZERO
     }
 
     // The unit vector of this position.
@@ -112,13 +112,6 @@ impl NVector {
         ensures { result ≡ spec.as_vec3 self }
     {
         self.0
-    }
-
-    // Whether the two are the same, part by part: the source's `==`.
-    pub fn eq(self, o: NVector) -> bool
-        ensures { result ≡ spec.eq self o }
-    {
-        self.0.eq(o.0)
     }
 }
 
@@ -141,10 +134,10 @@ fn nvector_to_latlong(nvector: Vec3) -> LatLong
 fn latlong_to_nvector(latitude: Angle, longitude: Angle) -> Vec3
     ensures { result ≡ spec.latlong_to_nvector latitude longitude }
 {
-    if latitude.eq(Angle::QUARTER_CIRCLE) {
+    if latitude == Angle::QUARTER_CIRCLE {
         return Vec3::UNIT_Z;
     }
-    if latitude.eq(Angle::NEG_QUARTER_CIRCLE) {
+    if latitude == Angle::NEG_QUARTER_CIRCLE {
         return Vec3::NEG_UNIT_Z;
     }
     let lat = sin_cos(latitude.radians);

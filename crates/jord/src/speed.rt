@@ -11,6 +11,7 @@ pub struct Speed {
     pub mps: f64,
 }
 
+// The units have functions of their own, as in the source: each is one product or quotient, which a shared one would only name again.
 impl Speed {
     const KPH_TO_MPS: f64 = 1000.0 / 3600.0;
 

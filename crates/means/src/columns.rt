@@ -80,7 +80,7 @@ fn contains(cs: &[f64], ps: Places, a: NVector) -> bool
     }
     let mut i = 0;
     while i < ps.n {
-        if nth(cs, ps, i).eq(a) {
+        if nth(cs, ps, i) == a {
             return true;
         }
         i += 1;

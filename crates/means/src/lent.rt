@@ -22,7 +22,7 @@ pub fn mean_position_of(positions: &[NVector]) -> Mean
         let a = last.antipode();
         let mut j = 0;
         while j < n {
-            if positions[j].eq(a) {
+            if positions[j] == a {
                 return Mean::Antipodal;
             }
             j += 1;

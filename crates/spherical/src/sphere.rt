@@ -149,7 +149,7 @@ impl Sphere {
     pub fn is_great_circle(p1: NVector, p2: NVector) -> bool
         ensures { result ≡ spec.is_great_circle p1 p2 }
     {
-        !p1.eq(p2) & !p1.is_antipode_of(p2)
+        (p1 != p2) & !p1.is_antipode_of(p2)
     }
 
     // The compass angle at p2 of the way from p1; 0 where they define no great circle.

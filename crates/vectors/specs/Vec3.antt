@@ -101,7 +101,7 @@ neg v = new (Ieee.neg v.x) (Ieee.neg v.y) (Ieee.neg v.z)
 
 -- == of each part
 abbrev pub eq : Vec3 → Vec3 → Bool
-eq v o = Ieee.eq v.x o.x && Ieee.eq v.y o.y && Ieee.eq v.z o.z
+eq v o = Ieee.eq v.x o.x && (Ieee.eq v.y o.y && Ieee.eq v.z o.z)
 
 -- if n == 0.0 { ZERO } else { (1.0 / n) * self }
 abbrev unit_over : Float → Vec3 → Vec3

@@ -4,7 +4,7 @@ ghost use Rattle.vectors.specs.Mat33 as spec;
 
 use crate::vec3::Vec3;
 
-// A 3 by 3 matrix.
+// A 3 by 3 matrix: the source names its rows one by one, so they are no array.
 #[derive(Clone, Copy)]
 pub struct Mat33 {
     pub r0: Vec3,

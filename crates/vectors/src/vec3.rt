@@ -5,8 +5,8 @@ ghost use Rattle.vectors.specs.Vec3 as spec;
 use patterns::magnitude;
 use roots::sqrt;
 
-// A vector.
-#[derive(Clone, Copy)]
+// A vector; two are the same where each part is: the source's `==`.
+#[derive(Clone, Copy, PartialEq)]
 pub struct Vec3 {
     pub x: f64,
     pub y: f64,
@@ -140,7 +140,7 @@ impl Vec3 {
         ensures { result ≡ spec.orthogonal_to self o }
     {
         let r = self.stable_cross_prod_unit(o);
-        if r.eq(Vec3::ZERO) {
+        if r == Vec3::ZERO {
             self.orthogonal()
         } else {
             r
@@ -270,12 +270,5 @@ impl Vec3 {
         ensures { result ≡ spec.neg self }
     {
         Vec3::new(-self.x, -self.y, -self.z)
-    }
-
-    // Whether the two are the same, part by part: the source's `==`.
-    pub fn eq(self, o: Vec3) -> bool
-        ensures { result ≡ spec.eq self o }
-    {
-        (self.x == o.x) & (self.y == o.y) & (self.z == o.z)
     }
 }
