@@ -1,5 +1,5 @@
 -- `mean_position` and `triangle_mean_position` of sphere.rs, over lists of positions, and the positions that coordinates stand for. Definitions only.
-use Rattle.std.specs.Prelude.{ℕ, Bool, false, cond, ◌||◌, List, [], ◌∷◌, Result, Ok, Err, eqb, Float}
+use Rattle.std.specs.Prelude.{ℕ, Bool, false, cond, ◌||◌, List, [], ◌∷◌, Result, Ok, Err, Float}
 use Rattle.std.specs.Float.Ieee as Ieee
 use Rattle.patterns.specs.Operators.{◌⊕◌}
 use Rattle.vectors.specs.Vec3 as vec3
@@ -21,6 +21,10 @@ number_of (Err Empty) = 16
 number_of (Err Antipodal) = 17
 
 -- ---- lists
+
+-- what stands past the end of a list
+abbrev pub nowhere : NVector
+nowhere = nvector_new vec3.ZERO
 
 -- whether f says yes of an entry
 abbrev pub any : {A : Type 0} → (A → Bool) → List A → Bool
@@ -67,10 +71,6 @@ mean_from p (q ∷ l) = nvector_new (vec3_mean (p ∷ q ∷ l))
 abbrev pub mean_of : List NVector → Mean
 mean_of [] = Err Empty
 mean_of (p ∷ l) = cond (contains_antipodal (p ∷ l)) (Err Antipodal) (Ok (mean_from p l))
-
--- the mean of n positions, none the antipode of one, by the last of them and the sums
-abbrev pub mean_by : ℕ → NVector → Vec3 → Mean
-mean_by n last s = cond (eqb n 0) (Err Empty) (cond (eqb n 1) (Ok last) (Ok (nvector_new (along s))))
 
 -- p1.is_antipode_of(p2) || p1.is_antipode_of(p3) || p2.is_antipode_of(p3)
 abbrev pub antipodal_pair : NVector → NVector → NVector → Bool

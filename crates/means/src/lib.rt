@@ -4,12 +4,13 @@
 ghost use Rattle.std.specs.Prelude.{◌≡◌, Err};
 ghost use Rattle.means.specs.Mean as spec;
 
-use crate::columns::{Places, mean_laid};
+use crate::columns::InTurn;
 use jord::positions::NVector;
 use vectors::vec3::Vec3;
 
 pub mod columns;
 pub mod lent;
+mod run;
 
 // Why there is no mean, by document 01's number.
 #[derive(Clone, Copy)]
@@ -34,17 +35,7 @@ pub fn mean_position(cs: &[f64]) -> Result<NVector, NoMean>
     ensures mean { result ≡ spec.mean_position cs.now }
     ensures unchanged { cs.exit.now ≡ cs.entry.now }
 {
-    mean_laid(
-        cs,
-        Places {
-            x: 0,
-            y: 1,
-            z: 2,
-            step: 3,
-            n: cs.len() / 3,
-            cleared: true,
-        },
-    )
+    run::mean(InTurn(cs))
 }
 
 // The mean of three positions, the unit vector along their sum; Antipodal (17) where two are antipodes.
