@@ -1,26 +1,25 @@
--- The mean of a list, by its length and by the question 17. Assumes nothing.
-use mathlib.Core.Path.{◌≡◌, refl, ap}
-use mathlib.Core.Bool.{true, false, false≢true}
+-- What is asked of a list of positions. Assumes nothing.
+use mathlib.Core.Path.{◌≡◌, refl, sym}
+use mathlib.Core.Bool.{Bool, true, false, ◌||◌, false≢true}
 use mathlib.Core.List.{List, [], ◌∷◌}
-use Prim.Native.Nat.{ℕ, suc}
-use native.Mathlib.Omega.{arith}
-use lib.ListN.{length, get_or}
-use borrow.Author.Tests.{ne_eqb}
+use lib.Ieee as Ieee
+use Rattle.jord.specs.Positions.{as_vec3}
 use Rattle.jord.specs.declared.positions.NVector.{NVector}
-use Rattle.means.specs.Mean.{contains_antipodal, sum, mean_of, mean_by}
-use Rattle.means.specs.declared.Mean.TheVariants.{Position, Antipodal}
+use Rattle.means.specs.Mean.{any, contains}
 
-pub antipodal-of : (ps : List NVector) → contains_antipodal ps ≡ true → mean_of ps ≡ Antipodal
-antipodal-of [] e = absurd (false≢true e)
-antipodal-of (p ∷ l) e = rw e
+-- neither of two is true
+or_left : (a b : Bool) → (a || b) ≡ false → a ≡ false
+or_left true b e = e
+or_left false b e = refl
 
-pub mean-by : (ps : List NVector) (last d : NVector) → contains_antipodal ps ≡ false → (length ps ≡ 1 → last ≡ get_or ps 0 d) → mean_by (length ps) last (sum ps) ≡ mean_of ps
-mean-by [] last d e h = refl
-mean-by (p ∷ []) last d e h = rw e (ap Position (h refl))
-mean-by (p ∷ q ∷ l) last d e h = rw (ne_eqb (length (p ∷ q ∷ l)) 0 (no (length l)), ne_eqb (length (p ∷ q ∷ l)) 1 (not-one (length l)), e)
-  where
-    no : (n : ℕ) → suc (suc n) ≡ 0 → ⊥
-    no n h = omega arith
+or_right : (a b : Bool) → (a || b) ≡ false → b ≡ false
+or_right true b e = absurd (false≢true (sym e))
+or_right false b e = e
 
-    not-one : (n : ℕ) → suc (suc n) ≡ 1 → ⊥
-    not-one n h = omega arith
+-- where no x is a's, no position is a
+pub contains-none : (a : NVector) (ps : List NVector) → any (λ p. Ieee.eq (as_vec3 p).x (as_vec3 a).x) ps ≡ false → contains a ps ≡ false
+contains-none a [] e = refl
+contains-none a (p ∷ ps) e =
+    let rest = any (λ q. Ieee.eq (as_vec3 q).x (as_vec3 a).x) ps in
+    let first = Ieee.eq (as_vec3 p).x (as_vec3 a).x in
+    rw (or_left first rest e, contains-none a ps (or_right first rest e))

@@ -1,138 +1,85 @@
 // The mean of positions laid in one slice of numbers, three to each: one after another, or in three columns.
-ghost use Rattle.std.specs.Prelude.{◌≡◌, ◌+◌, ◌*◌, ◌<◌, length};
-ghost use Rattle.std.specs.Float.Ieee as Ieee;
+ghost use Rattle.std.specs.Prelude.{◌≡◌, ◌*◌, ◌/◌, ◌<◌, ◌≤◌, length, get_or};
 ghost use Rattle.means.specs.Mean as means;
 ghost use Rattle.means.specs.Laid as spec;
 
-use crate::lent::mean_by;
-use crate::{Mean, plus};
+use crate::NoMean;
+use crate::run::{self, Run};
 use jord::positions::NVector;
 use vectors::vec3::Vec3;
 
-// Where n positions lie: the parts of the i-th at x + step * i, y + step * i, z + step * i; `cleared` reads -0.0 as +0.0, as `Vec3::new` does.
+// Positions one after another, each through `Vec3::new`.
 #[derive(Clone, Copy)]
-pub(crate) struct Places {
-    pub(crate) x: usize,
-    pub(crate) y: usize,
-    pub(crate) z: usize,
-    pub(crate) step: usize,
-    pub(crate) n: usize,
-    pub(crate) cleared: bool,
+pub(crate) struct InTurn<'a>(pub(crate) &'a [f64]);
+
+impl InTurn<'_> {
+    // The i-th position, counted from 0.
+    fn position(self, i: usize) -> NVector
+        requires { i < length self.0.now / 3 }
+        ensures { result ≡ get_or (means.positions self.entry.0.now) i means.nowhere }
+    {
+        let k = 3 * i;
+        NVector::new(Vec3::new(self.0[k], self.0[k + 1], self.0[k + 2]))
+    }
+}
+
+impl Run for InTurn<'_> {
+    ghost listed = { λ s. means.positions s.0.now };
+
+    fn len(self) -> usize {
+        self.0.len() / 3
+    }
+
+    fn at(self, i: usize) -> NVector {
+        self.position(i)
+    }
+}
+
+// The first n of m positions: all x, then all y, then all z.
+#[derive(Clone, Copy)]
+struct InColumns<'a> {
+    cs: &'a [f64],
+    m: usize,
+    n: usize,
+    ghost few: { n ≤ m },
+    ghost long: { 3 * m ≤ length cs.now },
+}
+
+impl InColumns<'_> {
+    // The i-th position, counted from 0.
+    fn position(self, i: usize) -> NVector
+        requires { i < self.n }
+        ensures { result ≡ spec.column_at self.entry.cs.now self.entry.m i }
+    {
+        NVector::new(Vec3 {
+            x: self.cs[i],
+            y: self.cs[self.m + i],
+            z: self.cs[2 * self.m + i],
+        })
+    }
+}
+
+impl Run for InColumns<'_> {
+    ghost listed = { λ s. spec.in_columns s.cs.now s.m s.n };
+
+    fn len(self) -> usize {
+        self.n
+    }
+
+    fn at(self, i: usize) -> NVector {
+        self.position(i)
+    }
 }
 
 // The mean of the first n positions, or of all where there are fewer: all x, then all y, then all z. One or two numbers left over at the end count for nothing.
-pub fn mean_of_columns(cs: &[f64], n: usize) -> Mean
+pub fn mean_of_columns(cs: &[f64], n: usize) -> Result<NVector, NoMean>
     ensures mean { result ≡ spec.column_mean cs.now n }
     ensures unchanged { cs.exit.now ≡ cs.entry.now }
 {
     let m = cs.len() / 3;
-    let k = if n < m { n } else { m };
-    mean_laid(
+    run::mean(InColumns {
         cs,
-        Places {
-            x: 0,
-            y: m,
-            z: m * 2,
-            step: 1,
-            n: k,
-            cleared: false,
-        },
-    )
-}
-
-// The mean of the positions at these places.
-pub(crate) fn mean_laid(cs: &[f64], ps: Places) -> Mean
-    requires { spec.Within cs.now ps }
-    ensures { result ≡ means.mean_of (spec.laid cs.now ps) }
-{
-    if ps.n == 0 {
-        return Mean::Empty;
-    }
-    if contains_antipodal(cs, ps) {
-        return Mean::Antipodal;
-    }
-    mean_by(ps.n, nth(cs, ps, 0), sum(cs, ps))
-}
-
-// Whether a position is the antipode of one, itself included.
-fn contains_antipodal(cs: &[f64], ps: Places) -> bool
-    requires { spec.Within cs.now ps }
-    ensures { result ≡ means.contains_antipodal (spec.laid cs.now ps) }
-{
-    let mut i = 0;
-    while i < ps.n {
-        if contains(cs, ps, nth(cs, ps, i).antipode()) {
-            return true;
-        }
-        i += 1;
-    }
-    false
-}
-
-// Whether a position equals a. The x alone first: most often none has it.
-fn contains(cs: &[f64], ps: Places, a: NVector) -> bool
-    requires { spec.Within cs.now ps }
-    ensures { result ≡ means.contains a (spec.laid cs.now ps) }
-{
-    let v = a.as_vec3();
-    if !among(cs, ps, v.x) {
-        return false;
-    }
-    let mut i = 0;
-    while i < ps.n {
-        if nth(cs, ps, i) == a {
-            return true;
-        }
-        i += 1;
-    }
-    false
-}
-
-// Whether a position's x equals x. There is no early return, so that several are compared at once.
-fn among(cs: &[f64], ps: Places, x: f64) -> bool
-    requires { spec.Within cs.now ps }
-    ensures { result ≡ means.any (λ y. Ieee.eq y x) (spec.from (spec.part_at cs.now ps ps.x) 0 ps.n) }
-{
-    let mut found = false;
-    let mut i = 0;
-    while i < ps.n {
-        found = found | (part(cs, ps, ps.x, i) == x);
-        i += 1;
-    }
-    found
-}
-
-// The sums of the parts, in the order of the positions.
-fn sum(cs: &[f64], ps: Places) -> Vec3
-    requires { spec.Within cs.now ps }
-    ensures { result ≡ means.sum (spec.laid cs.now ps) }
-{
-    let mut s = Vec3::ZERO;
-    let mut i = 0;
-    while i < ps.n {
-        s = plus(s, nth(cs, ps, i));
-        i += 1;
-    }
-    s
-}
-
-// The i-th position, counted from 0.
-fn nth(cs: &[f64], ps: Places, i: usize) -> NVector
-    requires { spec.Inside cs.now ps i }
-    ensures { result ≡ spec.laid_at cs.now ps i }
-{
-    NVector::new(Vec3 {
-        x: part(cs, ps, ps.x, i),
-        y: part(cs, ps, ps.y, i),
-        z: part(cs, ps, ps.z, i),
+        m,
+        n: n.min(m),
     })
-}
-
-// The part of the i-th position that has this place.
-fn part(cs: &[f64], ps: Places, place: usize, i: usize) -> f64
-    requires { place + ps.step * i < length cs.now }
-    ensures { result ≡ spec.part_at cs.now ps place i }
-{
-    let v = cs[place + ps.step * i];
-    if ps.cleared { 0.0 + v } else { v }
 }

@@ -1,19 +1,19 @@
 -- The mean of the positions whose parts lie in columns is that of the targets.
-use Prim.Native.Nat.{ℕ, zero, suc, ◌+◌, ◌*◌, ◌≤◌, ◌<◌}
+use Prim.Native.Nat.{ℕ, zero, suc, ◌+◌, ◌*◌, ◌≤◌, ◌<◌, min}
 use native.Mathlib.Omega.{arith}
 use mathlib.Core.List.{List, [], ◌∷◌, map}
 use mathlib.Core.Path.{◌≡◌, refl, ap, ◌∙◌}
 use lib.Ieee.{Float, nan}
+use Rattle.std.proofs.Math.Nat.{zero-add}
 use lib.ListN.{length, take, get_or}
 use Rattle.vectors.specs.Vec3.{parts}
 use Rattle.jord.specs.Positions.{nvector_new}
 use Rattle.jord.specs.declared.positions.NVector.{NVector}
 use Rattle.means.specs.Mean.{mean_of}
-use Rattle.means.specs.Laid.{from, laid_at, in_columns, column_mean}
+use Rattle.means.specs.Laid.{from, column_at, column_mean}
 use Rattle.plain.specs.Asking.{position_of}
 use Rattle.plain.specs.Targets.{most_targets}
 use Rattle.plain.specs.declared.targets.Target.{Target}
-use Rattle.plain.proofs.Listed.{at-most-same}
 use Rattle.targets.specs.Asking.{vector_of, Columns}
 
 -- the position by the i-th part of each kind
@@ -33,8 +33,7 @@ pub mean-columns : (cs : List Float) (ts : List Target) (n : ℕ) → length cs 
     → column_mean cs n ≡ mean_of (map position_of (take n ts))
 unfolding column_mean
 mean-columns cs ts n long full small so =
-    let at : (place j : ℕ) → get_or cs (place + 1 * (0 + j)) nan ≡ get_or cs (place + j) nan =
-    λ place j. ap (λ (k : ℕ). get_or cs k nan) (let e : place + 1 * (0 + j) ≡ place + j = omega arith in e) in
-    let same : (j : ℕ) → j < n → laid_at cs (in_columns most_targets n) (0 + j) ≡ parts_at ts j =
-    λ j h. cc (at 0 j ∙ so.0 j (omega arith), at most_targets j ∙ so.1 j (omega arith), at (2 * most_targets) j ∙ so.2 j (omega arith)) in
-    rw (long, at-most-same n small) (ap mean_of (from-map ts (laid_at cs (in_columns most_targets n)) 0 n (omega arith) same))
+    let same : (j : ℕ) → j < n → column_at cs most_targets (0 + j) ≡ parts_at ts j =
+    λ j h. rw (← so.0 j (omega arith), ← so.1 j (omega arith), ← so.2 j (omega arith), zero-add j) in
+    let first : min n most_targets ≡ n = omega arith in
+    rw (long, first) (ap mean_of (from-map ts (column_at cs most_targets) 0 n (omega arith) same))

@@ -1,0 +1,91 @@
+// The mean of positions that are read one by one, however they lie.
+ghost use Rattle.std.specs.Prelude.{◌≡◌, ◌<◌, List, length, get_or};
+ghost use Rattle.std.specs.Float.Ieee as Ieee;
+ghost use Rattle.jord.specs.Positions.{as_vec3};
+ghost use Rattle.jord.specs.declared.positions.NVector.{NVector};
+ghost use Rattle.means.specs.Mean as spec;
+
+use crate::{NoMean, plus};
+use jord::positions::NVector;
+use vectors::vec3::Vec3;
+
+// Positions that are read one by one.
+pub(crate) trait Run: Copy {
+    ghost listed: { Self → List NVector };
+
+    // How many there are.
+    fn len(self) -> usize
+        ensures { result ≡ length (listed self) };
+
+    // The i-th position, counted from 0.
+    fn at(self, i: usize) -> NVector
+        requires { i < length (listed self) }
+        ensures { result ≡ get_or (listed self) i spec.nowhere };
+}
+
+// The mean of the positions: one is its own mean, of more it is the unit vector along their sum.
+pub(crate) fn mean<R: Run>(ps: R) -> Result<NVector, NoMean>
+    ensures { result ≡ spec.mean_of (R.listed ps) }
+{
+    let n = ps.len();
+    if n == 0 {
+        return Err(NoMean::Empty);
+    }
+    if contains_antipodal(ps) {
+        return Err(NoMean::Antipodal);
+    }
+    if n == 1 {
+        return Ok(ps.at(0));
+    }
+    let s = sum(ps);
+    Ok(NVector::new(Vec3::new_unit(s.x, s.y, s.z)))
+}
+
+// Whether a position is the antipode of one, itself included.
+fn contains_antipodal<R: Run>(ps: R) -> bool
+    ensures { result ≡ spec.contains_antipodal (R.listed ps) }
+{
+    for i in 0..ps.len() {
+        if contains(ps, ps.at(i).antipode()) {
+            return true;
+        }
+    }
+    false
+}
+
+// Whether a position equals a. The x alone first: most often none has it.
+fn contains<R: Run>(ps: R, a: NVector) -> bool
+    ensures { result ≡ spec.contains a (R.listed ps) }
+{
+    if !among(ps, a.as_vec3().x) {
+        return false;
+    }
+    for i in 0..ps.len() {
+        if ps.at(i) == a {
+            return true;
+        }
+    }
+    false
+}
+
+// Whether a position's x equals x. There is no early return, so that several are compared at once.
+fn among<R: Run>(ps: R, x: f64) -> bool
+    ensures { result ≡ spec.any (λ p. Ieee.eq (as_vec3 p).x x) (R.listed ps) }
+{
+    let mut found = false;
+    for i in 0..ps.len() {
+        found |= ps.at(i).as_vec3().x == x;
+    }
+    found
+}
+
+// The sums of the parts, in the order of the positions.
+fn sum<R: Run>(ps: R) -> Vec3
+    ensures { result ≡ spec.sum (R.listed ps) }
+{
+    let mut s = Vec3::ZERO;
+    for i in 0..ps.len() {
+        s = plus(s, ps.at(i));
+    }
+    s
+}
