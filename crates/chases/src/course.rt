@@ -9,6 +9,7 @@ use vectors::mat33::Mat33;
 use vectors::vec3::Vec3;
 
 // The unit vector along which a vehicle heads.
+#[tactic(auto, unfolding(walks::specs::Course::course))]
 pub fn course(vehicle: Vehicle) -> Vec3
     ensures { result ≡ spec.course vehicle }
 {
@@ -22,6 +23,7 @@ pub fn course(vehicle: Vehicle) -> Vec3
 }
 
 // The rotation about the x axis.
+#[tactic(auto, unfolding(walks::specs::Course::course_rx))]
 fn course_rx(theta: f64) -> Mat33
     ensures { result ≡ spec.course_rx theta }
 {
@@ -32,6 +34,7 @@ fn course_rx(theta: f64) -> Mat33
 }
 
 // The rotation about the y axis.
+#[tactic(auto, unfolding(walks::specs::Course::course_ry))]
 fn course_ry(theta: f64) -> Mat33
     ensures { result ≡ spec.course_ry theta }
 {
@@ -42,6 +45,7 @@ fn course_ry(theta: f64) -> Mat33
 }
 
 // The rotation about the z axis.
+#[tactic(auto, unfolding(walks::specs::Course::course_rz))]
 fn course_rz(theta: f64) -> Mat33
     ensures { result ≡ spec.course_rz theta }
 {

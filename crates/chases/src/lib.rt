@@ -1,13 +1,18 @@
 // The walks: Newton's method towards the closest approach, over hours, and towards an intercept, over seconds.
 #![tactic(auto)]
 
-ghost use Rattle.std.specs.Prelude.{◌≡◌};
+ghost use Rattle.std.specs.Prelude.{◌≡◌, ◌-◌, Float};
+ghost use Rattle.patterns.specs.Operators.{◌⊘◌};
+ghost use Rattle.jord.specs.Positions.{as_vec3};
+ghost use Rattle.jord.specs.Speed.{as_knots};
 ghost use Rattle.chases.specs.Gone as shared;
+ghost use Rattle.walks.specs.Course as courses;
 ghost use Rattle.walks.specs.Walk as spec;
+ghost use Rattle.walks.specs.declared.Step.{Step};
 
 use crate::course::course;
 use arcs::base::angle_radians_between;
-use float::trig::{SinCos, sin, sin_cos, sin_cos_into};
+use float::trig::{SinCos, sin, sin_cos};
 use jord::length::Length;
 use jord::positions::NVector;
 use jord::vehicle::Vehicle;
@@ -36,35 +41,56 @@ pub const CPA_START: f64 = 0.0;
 // The time in seconds at which the walk to an intercept at a given speed starts.
 pub const INTERCEPT_START: f64 = 0.1;
 
+// A vehicle to the closest approach: its position, its course and its angular speed, in radians an hour.
+#[derive(Clone, Copy)]
+struct Mover {
+    p0: Vec3,
+    course: Vec3,
+    w: f64,
+}
+
+impl Mover {
+    // The vehicle on a sphere of a radius in nautical miles.
+    fn new(vehicle: Vehicle, r_nm: f64) -> Self
+        ensures p0 { result.p0 ≡ as_vec3 vehicle.position }
+        ensures course { result.course ≡ courses.course vehicle }
+        ensures w { result.w ≡ as_knots vehicle.speed ⊘ r_nm }
+    {
+        Mover {
+            p0: vehicle.position.as_vec3(),
+            course: course(vehicle),
+            w: vehicle.speed.as_knots() / r_nm,
+        }
+    }
+}
+
 // The coefficients of two vehicles on a sphere.
+#[tactic(auto, unfolding(walks::specs::Walk::cpa_new))]
 pub fn cpa_new(radius: Length, ownship: Vehicle, intruder: Vehicle) -> Cpa
     ensures { result ≡ spec.cpa_new radius ownship intruder }
 {
     let r_nm = radius.as_nautical_miles();
-
-    let own_p0 = ownship.position.as_vec3();
-    let own_course = course(ownship);
-    let own_w = ownship.speed.as_knots() / r_nm;
-
-    let int_p0 = intruder.position.as_vec3();
-    let int_course = course(intruder);
-    let int_w = intruder.speed.as_knots() / r_nm;
-
-    cpa_coefficients(own_p0, own_course, own_w, int_p0, int_course, int_w)
+    cpa_coefficients(Mover::new(ownship, r_nm), Mover::new(intruder, r_nm))
 }
 
-// The coefficients of positions p, courses c and angular speeds w: the head of the source's `cpa_fn`.
-fn cpa_coefficients(p10: Vec3, c10: Vec3, w1: f64, p20: Vec3, c20: Vec3, w2: f64) -> Cpa
-    ensures { result ≡ spec.cpa_coefficients p10 c10 w1 p20 c20 w2 }
+// The coefficients of two vehicles: the head of the source's `cpa_fn`.
+#[tactic(auto, unfolding(walks::specs::Walk::cpa_coefficients))]
+fn cpa_coefficients(own: Mover, int: Mover) -> Cpa
+    ensures { result ≡ spec.cpa_coefficients own.p0 own.course own.w int.p0 int.course int.w }
 {
-    let a = -(w1 * p10.dot_prod(c20) + w2 * p20.dot_prod(c10));
-    let b = w1 * c10.dot_prod(p20) + w2 * c20.dot_prod(p10);
-    let c = -(w1 * p10.dot_prod(p20) - w2 * c20.dot_prod(c10));
-    let d = w1 * c10.dot_prod(c20) - w2 * p20.dot_prod(p10);
-    Cpa { a, b, c, d, w1, w2 }
+    let (w1, w2) = (own.w, int.w);
+    Cpa {
+        a: -(w1 * own.p0.dot_prod(int.course) + w2 * int.p0.dot_prod(own.course)),
+        b: w1 * own.course.dot_prod(int.p0) + w2 * int.course.dot_prod(own.p0),
+        c: -(w1 * own.p0.dot_prod(int.p0) - w2 * int.course.dot_prod(own.course)),
+        d: w1 * own.course.dot_prod(int.course) - w2 * int.p0.dot_prod(own.p0),
+        w1,
+        w2,
+    }
 }
 
 // The sines and cosines of the angles that two vehicles have gone through at the time t in hours.
+#[tactic(auto, unfolding(walks::specs::Walk::sines_at))]
 fn sines_at(k: Cpa, t: f64) -> Sines
     ensures { result ≡ spec.sines_at k t }
 {
@@ -79,6 +105,7 @@ fn sines_at(k: Cpa, t: f64) -> Sines
 }
 
 // The rate at which the cosine of the angle between two vehicles changes, zero where they are closest or farthest apart: the source's `cpa_fn` with `derivate` false.
+#[tactic(auto, unfolding(walks::specs::Walk::cpa_fn))]
 fn cpa_fn(k: Cpa, s: Sines) -> f64
     ensures { result ≡ spec.cpa_fn k s }
 {
@@ -86,6 +113,7 @@ fn cpa_fn(k: Cpa, s: Sines) -> f64
 }
 
 // The derivative, by the time in hours, of the rate that `cpa_fn` gives: the source's `cpa_fn` with `derivate` true.
+#[tactic(auto, unfolding(walks::specs::Walk::cpa_derivate))]
 fn cpa_derivate(k: Cpa, s: Sines) -> f64
     ensures { result ≡ spec.cpa_derivate k s }
 {
@@ -96,6 +124,7 @@ fn cpa_derivate(k: Cpa, s: Sines) -> f64
 }
 
 // A step of the walk to the closest approach: it accepts the time before the correction.
+#[tactic(auto, unfolding(walks::specs::Walk::cpa_step))]
 pub fn cpa_step(k: Cpa, x: f64) -> Step
     ensures { result ≡ spec.cpa_step k x }
 {
@@ -112,30 +141,23 @@ pub fn cpa_step(k: Cpa, x: f64) -> Step
     Step::Next(x - m)
 }
 
-// The walk to the closest approach.
+// The walk to the closest approach. A loop: by the recursion of the intercepts' walks it takes more instructions.
 pub fn newton_raphson(k: Cpa) -> Walk
     ensures { result ≡ spec.newton_raphson k }
 {
     let mut x = CPA_START;
-    let mut i: u32 = 0;
-    while i < CPA_NR_MAX_ITERATIONS {
+    for i in 0..CPA_NR_MAX_ITERATIONS {
         match cpa_step(k, x) {
-            Step::ZeroDerivative => {
-                return Walk::ZeroDerivative { count: i + 1 };
-            }
-            Step::Accepted(time) => {
-                return Walk::Accepted { time, count: i + 1 };
-            }
-            Step::Next(next) => {
-                x = next;
-            }
+            Step::ZeroDerivative => return Walk::ZeroDerivative { count: i + 1 },
+            Step::Accepted(time) => return Walk::Accepted { time, count: i + 1 },
+            Step::Next(next) => x = next,
         }
-        i += 1;
     }
     Walk::NotConverged
 }
 
 // The coefficients of an interceptor and an intruder on a sphere.
+#[tactic(auto, unfolding(walks::specs::Walk::chase_new))]
 pub fn chase_new(radius: Length, interceptor: NVector, intruder: Vehicle) -> Chase
     ensures { result ≡ spec.chase_new radius interceptor intruder }
 {
@@ -160,6 +182,7 @@ pub fn chase_new(radius: Length, interceptor: NVector, intruder: Vehicle) -> Cha
 }
 
 // The time in seconds at which the walk to the longest intercept starts: that of an intruder that comes straight on.
+#[tactic(auto, unfolding(walks::specs::Walk::chase_start))]
 pub fn chase_start(k: Chase) -> f64
     ensures { result ≡ spec.chase_start k }
 {
@@ -178,10 +201,7 @@ struct Gone {
 fn gone_at(k: Chase, t: f64) -> Gone
     ensures { result ≡ shared.gone_at k t }
 {
-    let mut sin = 0.0;
-    let mut cos = 0.0;
-    sin_cos_into(k.w2 * t, &mut sin, &mut cos);
-    let w2t = SinCos { sin, cos };
+    let w2t = sin_cos(k.w2 * t);
     let w = k.s2 / k.radius;
     if to_bits(w) == to_bits(k.w2) {
         return Gone { w2t, pos: w2t };
@@ -205,6 +225,7 @@ fn sep(k: Chase, a: SinCos) -> f64
 }
 
 // What the correction fi makes of a time: the corrected time, accepted where the correction is small, or too small to move the time.
+#[tactic(auto, unfolding(walks::specs::Walk::corrected))]
 fn corrected(ti: f64, fi: f64) -> Step
     ensures { result ≡ spec.corrected ti fi }
 {
@@ -219,6 +240,7 @@ fn corrected(ti: f64, fi: f64) -> Step
 }
 
 // A step of the walk to the longest intercept. A separation of zero accepts the time as it is.
+#[tactic(auto, unfolding(walks::specs::Walk::int_min_step, walks::specs::Walk::sep, walks::specs::Walk::pos))]
 pub fn int_min_step(k: Chase, ti: f64) -> Step
     ensures { result ≡ spec.int_min_step k ti }
 {
@@ -245,17 +267,11 @@ pub fn int_min_step(k: Chase, ti: f64) -> Step
 pub fn int_min_nr_rec(k: Chase, ti: f64, i: u32) -> Walk
     ensures { result ≡ spec.int_min_nr_rec k ti i }
 {
-    if i >= INTERCEPT_NR_MAX_ITERATIONS {
-        return Walk::NotConverged;
-    }
-    match int_min_step(k, ti) {
-        Step::ZeroDerivative => Walk::ZeroDerivative { count: i + 1 },
-        Step::Accepted(time) => Walk::Accepted { time, count: i + 1 },
-        Step::Next(ti1) => int_min_nr_rec(k, ti1, i + 1),
-    }
+    int_nr_rec(k, ti, i)
 }
 
 // A step of the walk to the intercept at the angular speed w1.
+#[tactic(auto, unfolding(walks::specs::Walk::int_spd_step, walks::specs::Walk::sep, walks::specs::Walk::pos))]
 pub fn int_spd_step(k: Chase, w1: f64, ti: f64) -> Step
     ensures { result ≡ spec.int_spd_step k w1 ti }
 {
@@ -273,12 +289,52 @@ pub fn int_spd_step(k: Chase, w1: f64, ti: f64) -> Step
 pub fn int_spd_nr_rec(k: Chase, w1: f64, ti: f64, i: u32) -> Walk
     ensures { result ≡ spec.int_spd_nr_rec k w1 ti i }
 {
+    int_nr_rec(AtSpeed { k, w1 }, ti, i)
+}
+
+// The coefficients of an intercept, with the step of its walk.
+trait Intercept: Copy {
+    ghost step_is: { Self → Float → Step };
+
+    fn step(self, ti: f64) -> Step
+        ensures { result ≡ step_is self ti };
+}
+
+// Coefficients alone are those of the longest intercept.
+impl Intercept for Chase {
+    ghost step_is = { spec.int_min_step };
+
+    fn step(self, ti: f64) -> Step {
+        int_min_step(self, ti)
+    }
+}
+
+// The intercept at the angular speed w1.
+#[derive(Clone, Copy)]
+struct AtSpeed {
+    k: Chase,
+    w1: f64,
+}
+
+impl Intercept for AtSpeed {
+    ghost step_is = { λ s. spec.int_spd_step s.k s.w1 };
+
+    fn step(self, ti: f64) -> Step {
+        int_spd_step(self.k, self.w1, ti)
+    }
+}
+
+// What is left, from the time ti and after i steps, of the walk to an intercept.
+fn int_nr_rec<S: Intercept>(s: S, ti: f64, i: u32) -> Walk
+    ensures { result ≡ spec.walk (S.step_is s) (spec.most_steps - i) ti }
+{
     if i >= INTERCEPT_NR_MAX_ITERATIONS {
         return Walk::NotConverged;
     }
-    match int_spd_step(k, w1, ti) {
-        Step::ZeroDerivative => Walk::ZeroDerivative { count: i + 1 },
-        Step::Accepted(time) => Walk::Accepted { time, count: i + 1 },
-        Step::Next(ti1) => int_spd_nr_rec(k, w1, ti1, i + 1),
-    }
+    let ti1 = match s.step(ti) {
+        Step::ZeroDerivative => return Walk::ZeroDerivative { count: i + 1 },
+        Step::Accepted(time) => return Walk::Accepted { time, count: i + 1 },
+        Step::Next(ti1) => ti1,
+    };
+    int_nr_rec(s, ti1, i + 1)
 }

@@ -1,20 +1,16 @@
 -- `newton_raphson` meets its contract.
-use mathlib.Core.Path.{sym, ◌∙◌}
-use native.Mathlib.Omega.{arith}
+use Rattle.std.proofs.Common.{sym, ◌∙◌, arith}
 use Rattle.chases.proofs.Steps.{stepped, ended}
 use Rattle.chases.proofs.newton_raphson.Goals as goal
 
 pub returns-in-ZeroDerivative : goal.returns-in-ZeroDerivative
-returns-in-ZeroDerivative c =
-    sym (stepped _ _ _ _ (omega arith) (sym c.in-ZeroDerivative.is ∙ c.cpa_step.ensures)) ∙ c.loop-i.invariant.1
+returns-in-ZeroDerivative c = sym (stepped _ _ _ _ (omega arith) c.in-ZeroDerivative.ensures) ∙ c.loop-i.invariant
 
 pub returns-in-Accepted : goal.returns-in-Accepted
-returns-in-Accepted c =
-    sym (stepped _ _ _ _ (omega arith) (sym c.in-Accepted.is ∙ c.cpa_step.ensures)) ∙ c.loop-i.invariant.1
+returns-in-Accepted c = sym (stepped _ _ _ _ (omega arith) c.in-Accepted.ensures) ∙ c.loop-i.invariant
 
 pub loop-i-preserved : goal.loop-i-preserved
-loop-i-preserved c =
-    (omega arith, sym (stepped _ _ _ _ (omega arith) (sym c.in-Next.is ∙ c.cpa_step.ensures)) ∙ c.loop-i.invariant.1)
+loop-i-preserved c = sym (stepped _ _ _ _ (omega arith) c.in-Next.ensures) ∙ c.loop-i.invariant
 
 pub returns : goal.returns
-returns c = ended _ _ _ (omega arith) ∙ c.loop-i.invariant.1
+returns c = ended _ _ _ (omega arith) ∙ c.loop-i.invariant
