@@ -105,6 +105,7 @@ fn nearest_even(p: Unpacked) -> u64
 }
 
 // q and h halves, h being 0 or 1, and whether there is a rest below them: nearest, ties to even.
+#[tactic(auto, unfolding(crate::specs::Duration::settled))]
 fn settle(q: u64, h: u64, rest: bool) -> u64
     requires { q + 1 < 2 ^ 64 }
     ensures { result ≡ spec.settled q h rest }

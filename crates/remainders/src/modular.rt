@@ -69,6 +69,7 @@ impl Modulus {
     }
 
     // From 1 to 2, with a fraction just below a / m, where a is what m leaves of the digits. Nothing rests on how near.
+    #[tactic(auto, using(patterns::proofs::Pattern::no_nan))]
     fn float_quotient(self, digits: u64) -> f64
         requires { digits < 2 ^ 53 }
     {

@@ -42,9 +42,6 @@ module _ (d k : ℕ) (dp : 0 < d) (small : d < 2 ^ 53) (under : k < 2047) where
   shift_is : suc (top d dp small).0 + shift d k ≡ 53 + (leads d k + 1) % 2
   shift_is = let z = zeros-in d dp small in let b = (top d dp small).1 in omega arith
 
-  pub shift-lt-64 : shift d k < 64
-  shift-lt-64 = let z = zeros-in d dp small in omega arith
-
   exact : lifted d k ≡ d * 2 ^ shift d k
   exact = shift-exact d dp small (shift d k) (let z = zeros-in d dp small in omega arith)
 

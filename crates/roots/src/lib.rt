@@ -31,6 +31,7 @@ fn newton(s: f64, y: f64) -> f64 {
 }
 
 // m * 2^-52 for an m from 2^52 up. Nothing rests on it.
+#[tactic(auto, using(patterns::proofs::Pattern::no_nan))]
 fn significand(m: u64) -> f64
     requires { m < 2 ^ 54 }
 {

@@ -9,23 +9,14 @@ use Rattle.roots.proofs.Digits.{halved, digit-one-found, digit-zero-found, digit
 use Rattle.roots.proofs.root_by_digits.Goals as goal
 
 -- the weight of the next digit, as the code shifts it
-weight : (c : goal.In-loop-place) → 1 * 2 ^ (c.loop-place.place - 1) % 2 ^ 64 ≡ 2 ^ (c.loop-place.place - 1)
-weight c = shl_exact 1 (c.loop-place.place - 1) 64 (omega arith) (omega arith) ∙ omega arith
-
-pub loop-place-init : goal.loop-place-init
-loop-place-init c = record { within = omega arith; less = omega arith; is = omega arith }
+weight : (j : ℕ) → j ≤ 54 → 1 * 2 ^ (j - 1) % 2 ^ 64 ≡ 2 ^ (j - 1)
+weight j h = shl_exact 1 (j - 1) 64 (omega arith) (omega arith) ∙ omega arith
 
 pub loop-place-preserved-then-t-rest : goal.loop-place-preserved-then-t-rest
-loop-place-preserved-then-t-rest c = digit-one-found c.loop-place.invariant c.loop-place-test.true (weight c.before) c.if-t-rest.true
+loop-place-preserved-then-t-rest c = digit-one-found c.loop-place.invariant c.loop-place-test.true (weight c.loop-place.place c.loop-place.auto.place) c.if-t-rest.true
 
 pub loop-place-preserved : goal.loop-place-preserved
-loop-place-preserved c = digit-zero-found c.loop-place.invariant c.loop-place-test.true (weight c.before) c.if-t-rest.false
-
-pub overflow_add-t : goal.overflow_add-t
-overflow_add-t c = let w = weight c in let h = halved c.loop-place.place c.loop-place-test.true in omega arith
-
-pub overflow_add-root : goal.overflow_add-root
-overflow_add-root c = let w = weight c.before in let h = halved c.loop-place.place c.loop-place-test.true in omega arith
+loop-place-preserved c = digit-zero-found c.loop-place.invariant c.loop-place-test.true (weight c.loop-place.place c.loop-place.auto.place) c.if-t-rest.false
 
 pub returns : goal.returns
 returns c =
