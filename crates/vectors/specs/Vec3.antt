@@ -115,7 +115,7 @@ unit v = unit_over (norm v) v
 -- ---- cross products
 
 -- what `make` makes of the parts of v x o
-abbrev crossed : (Float → Float → Float → Vec3) → Vec3 → Vec3 → Vec3
+abbrev pub crossed : (Float → Float → Float → Vec3) → Vec3 → Vec3 → Vec3
 crossed make v o = make (v.y ⊗ o.z ⊖ v.z ⊗ o.y) (v.z ⊗ o.x ⊖ v.x ⊗ o.z) (v.x ⊗ o.y ⊖ v.y ⊗ o.x)
 
 -- Vec3::new(x, y, z) of them

@@ -112,20 +112,27 @@ impl Vec3 {
     pub fn cross_prod(self, o: Vec3) -> Self
         ensures { result ≡ spec.cross_prod self o }
     {
-        let x = self.y * o.z - self.z * o.y;
-        let y = self.z * o.x - self.x * o.z;
-        let z = self.x * o.y - self.y * o.x;
-        Vec3::new(x, y, z)
+        let p = self.crossed(o);
+        Vec3::new(p.x, p.y, p.z)
     }
 
     // The cross product, made of length one.
     pub fn cross_prod_unit(self, o: Vec3) -> Self
         ensures { result ≡ spec.cross_prod_unit self o }
     {
-        let x = self.y * o.z - self.z * o.y;
-        let y = self.z * o.x - self.x * o.z;
-        let z = self.x * o.y - self.y * o.x;
-        Vec3::new_unit(x, y, z)
+        let p = self.crossed(o);
+        Vec3::new_unit(p.x, p.y, p.z)
+    }
+
+    // The parts of the cross product, one of -0.0 kept.
+    fn crossed(self, o: Vec3) -> Self
+        ensures { result ≡ spec.crossed spec.parts self o }
+    {
+        Vec3 {
+            x: self.y * o.z - self.z * o.y,
+            y: self.z * o.x - self.x * o.z,
+            z: self.x * o.y - self.y * o.x,
+        }
     }
 
     // The dot product.

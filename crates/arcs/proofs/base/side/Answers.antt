@@ -20,11 +20,22 @@ by-triage v0 v1 v2 p triage m e f g = rw (g, f, e)
 
 pub returns-then-eq_zero : goal.returns-then-eq_zero
 returns-then-eq_zero c =
-    rw (by-triage _ _ _ _ _ _ c.cross_prod.ensures c.dot_prod-triage_side.ensures c.magnitude.ensures, c.if-magnitude.true, sym (rw c.orthogonal_to.ensures at c.dot_prod-exact_side.ensures), sym c.eq_zero.ensures ∙ c.if-eq_zero.true)
+    rw (
+      by-triage _ _ _ _ _ _ c.cross_prod.ensures c.dot_prod-triage_side.ensures c.magnitude.ensures,
+      c.if-magnitude.true,
+      sym (rw c.orthogonal_to.ensures at c.dot_prod-exact_side.ensures),
+      sym c.eq_zero.ensures ∙ c.if-eq_zero.true,
+    )
 
 pub returns-else-eq_zero : goal.returns-else-eq_zero
 returns-else-eq_zero c =
-    rw (by-triage _ _ _ _ _ _ c.cross_prod.ensures c.dot_prod-triage_side.ensures c.magnitude.ensures, c.if-magnitude.true, sym (rw c.orthogonal_to.ensures at c.dot_prod-exact_side.ensures), sym c.eq_zero.ensures ∙ c.if-eq_zero.false) c.by_sign.ensures
+    rw (
+      by-triage _ _ _ _ _ _ c.cross_prod.ensures c.dot_prod-triage_side.ensures c.magnitude.ensures,
+      c.if-magnitude.true,
+      sym (rw c.orthogonal_to.ensures at c.dot_prod-exact_side.ensures),
+      sym c.eq_zero.ensures ∙ c.if-eq_zero.false,
+    )
+    c.by_sign.ensures
 
 pub returns-else-magnitude : goal.returns-else-magnitude
 returns-else-magnitude c = rw (by-triage _ _ _ _ _ _ c.cross_prod.ensures c.dot_prod-triage_side.ensures c.magnitude.ensures, c.if-magnitude.false) c.by_sign-else-magnitude.ensures
