@@ -141,7 +141,7 @@ pub fn cpa_step(k: Cpa, x: f64) -> Step
     Step::Next(x - m)
 }
 
-// The walk to the closest approach. A loop: by the recursion of the intercepts' walks it takes more instructions.
+// The walk to the closest approach. A loop: as a recursion, like the walks to an intercept, it took a third more instructions.
 pub fn newton_raphson(k: Cpa) -> Walk
     ensures { result ≡ spec.newton_raphson k }
 {

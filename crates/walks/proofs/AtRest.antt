@@ -10,7 +10,8 @@ use lib.Ieee.{Float, nan, inf, fin, binary64, up, down, round, add, sub, mul, di
 use lib.Ieee.Fits.{down_pos}
 use lib.Ieee.Scale.{round_same}
 use Rattle.patterns.specs.Operators.{◌⊕◌, ◌⊖◌, ◌⊗◌, ◌⊘◌}
-use Rattle.float.specs.Trig.{sin, cos, atan2}
+use Rattle.float.specs.Trig.{atan2}
+use Rattle.float.specs.Table.{cosine-of-nan, sine-of-nan}
 use Rattle.patterns.proofs.NonFinite.{non_finite}
 use Rattle.vectors.specs.Literal as literal
 use Rattle.patterns.proofs.Held.{above_zero}
@@ -47,14 +48,6 @@ nan-div : (x : Float) → nan ⊘ x ≡ nan
 unfolding div
 nan-div x = refl
 
-sin-nan : sin nan ≡ nan
-unfolding sin
-sin-nan = refl
-
-cos-nan : cos nan ≡ nan
-unfolding cos
-cos-nan = refl
-
 atan2-nan : (y : Float) → atan2 y nan ≡ nan
 unfolding atan2
 atan2-nan nan = refl
@@ -65,7 +58,7 @@ atan2-nan (fin s m e) = refl
 
 sep-nan : (k : Chase) (t : Float) → k.s2 ⊘ k.radius ⊗ t ≡ nan → sep k t ≡ nan
 unfolding sep walks.pos
-sep-nan k t h = rw h (simp (cos-nan, sin-nan, mul-nan, add-nan, atan2-nan))
+sep-nan k t h = rw h (simp (cosine-of-nan, sine-of-nan, mul-nan, add-nan, atan2-nan))
 
 correction-of-nan : (t v v2 : Float) → min_correction_at t nan v v2 ≡ nan
 correction-of-nan t v v2 = simp (sub-nan, nan-div)

@@ -32,7 +32,7 @@ use Rattle.walks.specs.declared.Outcome.{Outcome}
 use Rattle.walks.specs.declared.Outcome.TheVariants.{Found, ZeroDerivative, NotConverged, Negative, TooLong}
 use Rattle.jord.specs.declared.length.Length.{Length}
 
-pub zero_one : ◌≡◌ {A = ℕ} 0 1 → ⊥
+zero_one : ◌≡◌ {A = ℕ} 0 1 → ⊥
 zero_one e = omega arith
 
 pub cond_same : {A : Type 0} (b : Bool) (x : A) → cond b x x ≡ x
@@ -56,10 +56,7 @@ ToldFrom f n t walked.NotConverged = (i : ℕ) → i < n → goes_on (f (time_af
 
 module _ (f : Float → Step) where
   here : (n : ℕ) (t : Float) (s : Step) → n < most_steps → f t ≡ s → EndsFrom f (suc n) t (most_steps - n) s
-  here n t s h e = record { k = 0; is = omega arith; less = omega arith; finds = e; before = λ i l. absurd (none i l) }
-    where
-      none : (i : ℕ) → i < 0 → ⊥
-      none i l = omega arith
+  here n t s h e = record { k = 0; is = omega arith; less = omega arith; finds = e; before = λ i l. absurd (omega arith) }
 
   -- a step that goes on to u
   passed : (t u : Float) → f t ≡ step.Next u → (k : ℕ) → time_after f t (suc k) ≡ time_after f u k
@@ -94,10 +91,7 @@ module _ (f : Float → Step) where
 
   told-from : (n : ℕ) (t : Float) → n ≤ most_steps → ToldFrom f n t (walk f n t)
   unfolding walk
-  told-from zero t h = λ i l. absurd (none i l)
-    where
-      none : (i : ℕ) → i < 0 → ⊥
-      none i l = omega arith
+  told-from zero t h = λ i l. absurd (omega arith)
   told-from (suc n) t h = settled n t (f t) (omega arith) refl (λ u. told-from n u (omega arith))
 
   whole : (t : Float) (count : ℕ) (s : Step) → EndsFrom f most_steps t count s → Ends f t count s
@@ -221,9 +215,9 @@ found_of duration f t walked.NotConverged ns count r e = let z : ◌≡◌ {A = 
 
 -- closest approach accepts "the time before the correction"
 accepts-before : (a b : Bool) (x u v : Float) → cond a step.ZeroDerivative (cond b (step.Accepted x) (step.Next v)) ≡ step.Accepted u → u ≡ x
-accepts-before true b x u v e = let z : ◌≡◌ {A = ℕ} 0 1 = cc in absurd (zero_one z)
+accepts-before true b x u v e = cc
 accepts-before false true x u v e = cc
-accepts-before false false x u v e = let z : ◌≡◌ {A = ℕ} 0 1 = cc in absurd (zero_one z)
+accepts-before false false x u v e = cc
 
 cpa-accepts : (k : Cpa) (x u : Float) → cpa_step k x ≡ step.Accepted u → u ≡ x
 unfolding cpa_step

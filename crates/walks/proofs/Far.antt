@@ -26,7 +26,6 @@ use Rattle.walks.specs.declared.Step.TheVariants as step
 use Rattle.walks.specs.declared.Walk.{Walk}
 use Rattle.walks.specs.declared.Walk.TheVariants.{NotConverged}
 use Rattle.jord.specs.declared.length.Length.{Length}
-use Rattle.walks.proofs.Counts.{zero_one}
 use Rattle.walks.proofs.Still.{still}
 
 -- ---- two steps that differ only where the first stands still
@@ -83,7 +82,7 @@ unless-met false t old new h = h
 
 -- a next time is a step's own corrected time
 next-is : (b : Bool) (t u : Float) (s : Step) → cond b (step.Accepted t) s ≡ step.Next u → s ≡ step.Next u
-next-is true t u s e = let z : ◌≡◌ {A = ℕ} 0 1 = cc in absurd (zero_one z)
+next-is true t u s e = cc
 next-is false t u s e = e
 
 corrected-held : (t fi u : Float) → corrected t fi ≡ step.Next u → T (fits binary64 u)

@@ -20,7 +20,7 @@ pub enum Step {
     Next(f64),
 }
 
-// What a walk comes to. A count is the steps begun.
+// What a walk comes to; a count is the steps begun. No `Result`: it would take two types more, and both readers tell all three apart and pass none on.
 #[derive(Clone, Copy)]
 pub enum Walk {
     Accepted { time: f64, count: u32 },
@@ -77,19 +77,16 @@ pub enum Outcome {
 }
 
 impl Outcome {
-    // Document 01's number of the outcome, 0 where found.
+    // Document 01's number of the outcome, 0 where found. A match: `as` takes no enum whose variants have fields.
     pub fn number(self) -> u8
         ensures { result ≡ spec.number_of self }
     {
         match self {
-            Outcome::Found {
-                nanoseconds: _,
-                count: _,
-            } => 0,
-            Outcome::ZeroDerivative { count: _ } => 12,
+            Outcome::Found { .. } => 0,
+            Outcome::ZeroDerivative { .. } => 12,
             Outcome::NotConverged => 13,
-            Outcome::Negative { count: _ } => 14,
-            Outcome::TooLong { count: _ } => 15,
+            Outcome::Negative { .. } => 14,
+            Outcome::TooLong { .. } => 15,
         }
     }
 
@@ -98,14 +95,8 @@ impl Outcome {
         ensures { result ≡ spec.nanoseconds_of self }
     {
         match self {
-            Outcome::Found {
-                nanoseconds,
-                count: _,
-            } => nanoseconds,
-            Outcome::ZeroDerivative { count: _ } => 0,
-            Outcome::NotConverged => 0,
-            Outcome::Negative { count: _ } => 0,
-            Outcome::TooLong { count: _ } => 0,
+            Outcome::Found { nanoseconds, .. } => nanoseconds,
+            _ => 0,
         }
     }
 
@@ -114,14 +105,11 @@ impl Outcome {
         ensures { result ≡ spec.count_of self }
     {
         match self {
-            Outcome::Found {
-                nanoseconds: _,
-                count,
-            } => count,
-            Outcome::ZeroDerivative { count } => count,
+            Outcome::Found { count, .. }
+            | Outcome::ZeroDerivative { count }
+            | Outcome::Negative { count }
+            | Outcome::TooLong { count } => count,
             Outcome::NotConverged => MOST_STEPS,
-            Outcome::Negative { count } => count,
-            Outcome::TooLong { count } => count,
         }
     }
 }
