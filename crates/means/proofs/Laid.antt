@@ -20,8 +20,11 @@ module _ {A : Type 0} (g : ℕ → A) where
   at_from i (suc k) d zero h = ap g (let e : i ≡ i + 0 = omega arith in e)
   at_from i (suc k) d (suc j) h = at_from (i + 1) k d j (omega arith) ∙ ap g (let e : i + 1 + j ≡ i + suc j = omega arith in e)
 
-  pub at_start : (k : ℕ) (d : A) (j : ℕ) → j < k → get_or (from g 0 k) j d ≡ g j
-  at_start k d j h = at_from 0 k d j h ∙ ap g (let e : 0 + j ≡ j = omega arith in e)
+  pub below-from : (k j : ℕ) → j < length (from g 0 k) → j < k
+  below-from k j h = omega (arith, length_from 0 k)
+
+  pub at_start : (k : ℕ) (d : A) (j : ℕ) → j < length (from g 0 k) → get_or (from g 0 k) j d ≡ g j
+  at_start k d j h = at_from 0 k d j (below-from k j h) ∙ ap g (let e : 0 + j ≡ j = omega arith in e)
 
 pub length_positions : (cs : List Float) → length (positions cs) ≡ length cs / 3
 length_positions [] = refl

@@ -77,9 +77,5 @@ pub fn mean_of_columns(cs: &[f64], n: usize) -> Result<NVector, NoMean>
     ensures unchanged { cs.exit.now ≡ cs.entry.now }
 {
     let m = cs.len() / 3;
-    run::mean(InColumns {
-        cs,
-        m,
-        n: n.min(m),
-    })
+    run::mean(InColumns { cs, m, n: n.min(m) })
 }

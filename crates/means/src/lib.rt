@@ -45,8 +45,8 @@ pub fn triangle_mean_position(p1: NVector, p2: NVector, p3: NVector) -> Result<N
     if p1.is_antipode_of(p2) | p1.is_antipode_of(p3) | p2.is_antipode_of(p3) {
         return Err(NoMean::Antipodal);
     }
-    let s = plus(plus(plus(Vec3::ZERO, p1), p2), p3);
-    Ok(NVector::new(Vec3::new_unit(s.x, s.y, s.z)))
+    let ps: &[NVector] = &[p1, p2, p3];
+    Ok(NVector::new(run::vec3_mean(ps)))
 }
 
 // s with the parts of p added to its own.

@@ -37,8 +37,7 @@ pub(crate) fn mean<R: Run>(ps: R) -> Result<NVector, NoMean>
     if n == 1 {
         return Ok(ps.at(0));
     }
-    let s = sum(ps);
-    Ok(NVector::new(Vec3::new_unit(s.x, s.y, s.z)))
+    Ok(NVector::new(vec3_mean(ps)))
 }
 
 // Whether a position is the antipode of one, itself included.
@@ -79,13 +78,13 @@ fn among<R: Run>(ps: R, x: f64) -> bool
     found
 }
 
-// The sums of the parts, in the order of the positions.
-fn sum<R: Run>(ps: R) -> Vec3
-    ensures { result ≡ spec.sum (R.listed ps) }
+// The source's `Vec3::mean`: the unit vector along the sums of the parts, in the order of the positions.
+pub(crate) fn vec3_mean<R: Run>(ps: R) -> Vec3
+    ensures { result ≡ spec.vec3_mean (R.listed ps) }
 {
     let mut s = Vec3::ZERO;
     for i in 0..ps.len() {
         s = plus(s, ps.at(i));
     }
-    s
+    Vec3::new_unit(s.x, s.y, s.z)
 }

@@ -64,10 +64,13 @@ westing v = cond (Ieee.eq (magnitude v.z) one) vec3.NEG_UNIT_Y (vec3.new v.y (Ie
 unfoldable pub initial_bearing_radians : NVector → NVector → Float
 initial_bearing_radians p1 p2 = base.angle_radians_about (vec3.cross_prod (as_vec3 p1) (as_vec3 p2)) (westing (as_vec3 p1)) (as_vec3 p1)
 
--- if Self::is_great_circle(p1, p2) { Angle::from_radians(initial_bearing_radians(p1, p2)).normalised() } else { Angle::ZERO }
+-- if Self::is_great_circle(p1, p2) { Angle::from_radians(radians).normalised() } else { Angle::ZERO }
+abbrev pub compass : NVector → NVector → Float → Angle
+compass p1 p2 radians = cond (is_great_circle p1 p2) (angles.normalised (angles.from_radians radians)) angles.ZERO
+
+-- the compass angle of initial_bearing_radians(p1, p2)
 unfoldable pub initial_bearing : NVector → NVector → Angle
-initial_bearing p1 p2 =
-    cond (is_great_circle p1 p2) (angles.normalised (angles.from_radians (initial_bearing_radians p1 p2))) angles.ZERO
+initial_bearing p1 p2 = compass p1 p2 (initial_bearing_radians p1 p2)
 
 -- side(p0.as_vec3(), p1.as_vec3(), p2.as_vec3())
 abbrev pub side : NVector → NVector → NVector → Side
@@ -87,10 +90,9 @@ along_track_distance s p ma =
 abbrev pub final_bearing_radians : NVector → NVector → Float
 final_bearing_radians p1 p2 = initial_bearing_radians p2 p1 ⊕ pi
 
--- if Self::is_great_circle(p1, p2) { Angle::from_radians(final_bearing_radians(p1, p2)).normalised() } else { Angle::ZERO }
+-- the compass angle of final_bearing_radians(p1, p2)
 unfoldable pub final_bearing : NVector → NVector → Angle
-final_bearing p1 p2 =
-    cond (is_great_circle p1 p2) (angles.normalised (angles.from_radians (final_bearing_radians p1 p2))) angles.ZERO
+final_bearing p1 p2 = compass p1 p2 (final_bearing_radians p1 p2)
 
 -- angle_radians_between(n1, n2, Some(b.as_vec3())), with n1 = a.as_vec3().orthogonal_to(b.as_vec3()), n2 = b.as_vec3().orthogonal_to(c.as_vec3())
 unfoldable pub turn : NVector → NVector → NVector → Angle

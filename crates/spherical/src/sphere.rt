@@ -156,22 +156,14 @@ impl Sphere {
     pub fn final_bearing(p1: NVector, p2: NVector) -> Angle
         ensures { result ≡ spec.final_bearing p1 p2 }
     {
-        if Sphere::is_great_circle(p1, p2) {
-            Angle::from_radians(final_bearing_radians(p1, p2)).normalised()
-        } else {
-            Angle::ZERO
-        }
+        compass(p1, p2, final_bearing_radians(p1, p2))
     }
 
     // The compass angle at p1 towards p2; 0 where they define no great circle.
     pub fn initial_bearing(p1: NVector, p2: NVector) -> Angle
         ensures { result ≡ spec.initial_bearing p1 p2 }
     {
-        if Sphere::is_great_circle(p1, p2) {
-            Angle::from_radians(initial_bearing_radians(p1, p2)).normalised()
-        } else {
-            Angle::ZERO
-        }
+        compass(p1, p2, initial_bearing_radians(p1, p2))
     }
 
     // The position at an angle from p1 on the great circle from p1 through p2.
@@ -187,7 +179,7 @@ impl Sphere {
     pub fn interpolated_position(p1: NVector, p2: NVector, f: f64) -> Result<NVector, Outside>
         ensures { result ≡ spec.interpolated_position p1 p2 f }
     {
-        if !((0.0 <= f) & (f <= 1.0)) {
+        if !(0.0..=1.0).contains(&f) {
             return Err(Outside);
         }
         if f == 0.0 {
@@ -248,6 +240,16 @@ impl Sphere {
         let k = chase_new(self.radius, interceptor, intruder);
         of_seconds(int_spd_nr_rec(k, w1, INTERCEPT_START, 0))
     }
+}
+
+// The compass angle of a bearing on the way from p1 to p2; 0 where they define no great circle.
+fn compass(p1: NVector, p2: NVector, radians: f64) -> Angle
+    ensures { result ≡ spec.compass p1 p2 radians }
+{
+    if !Sphere::is_great_circle(p1, p2) {
+        return Angle::ZERO;
+    }
+    Angle::from_radians(radians).normalised()
 }
 
 // The angle at v2 from north to the way that goes on from v1, clockwise.

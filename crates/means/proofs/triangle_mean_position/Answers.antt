@@ -22,8 +22,5 @@ returns c =
     rw (
       pairs c.args.p1 c.args.p2 c.args.p3 c.is_antipode_of.ensures c.is_antipode_of-2.ensures c.is_antipode_of-3.ensures ∙ c.if-is_antipode_of.false,
       c.new.ensures,
-      c.new_unit.ensures,
-      c.plus-s.ensures,
-      c.plus-2.ensures,
-      c.plus.ensures,
+      c.vec3_mean.ensures,
     )

@@ -1,26 +1,52 @@
 -- `interpolated_position` meets its contract.
-use Rattle.std.proofs.Common.{◌≡◌, true, false}
+use Rattle.std.proofs.Common.{◌≡◌, ◌&&◌, ◌||◌, Bool, true, false, cond, refl, Some, None, Less, Equal, Greater}
+use Rattle.std.specs.Float.{Float}
+use Rattle.std.specs.Float.Ieee.{lt, eq, le}
+use Rattle.std.specs.Ordering.{partial_lt, partial_le, float_partial_cmp, is_le, is_some_and}
+use Rattle.vectors.specs.Literal.{zero, one}
 use Rattle.spherical.specs.Sphere.{is_fraction, interpolated_position}
 use Rattle.spherical.proofs.sphere.Sphere.interpolated_position.Goals as goal
 
-pub returns-then-not-f : goal.returns-then-not-f
+-- floats are in order by `<=`
+by_tests : (l e g : Bool) → is_some_and is_le (cond l (Some Less) (cond e (Some Equal) (cond g (Some Greater) None))) ≡ (l || e)
+by_tests true e g = refl
+by_tests false true g = refl
+by_tests false false true = refl
+by_tests false false false = refl
+
+as_le : (x y : Float) → partial_le float_partial_cmp x y ≡ le x y
+unfolding le lt
+as_le x y = by_tests (lt x y) (eq x y) (lt y x)
+
+-- what a range from 0.0 to 1.0 tells of f
+tells : (f : Float) {s e : Float} {x r b : Bool} → s ≡ zero → e ≡ one → x ≡ false
+    → r ≡ (partial_le float_partial_cmp s f && cond x (partial_lt float_partial_cmp f e) (partial_le float_partial_cmp f e)) → r ≡ b → is_fraction f ≡ b
+tells f from to on h is = rw (← is, h, from, to, on, as_le zero f, as_le f one)
+
+pub returns-then-not-contains : goal.returns-then-not-contains
 unfolding interpolated_position
-returns-then-not-f c = let e : is_fraction c.args.f ≡ false = c.if-not-f.true in rw e
+returns-then-not-contains c =
+    let r = c.new.ensures in
+    rw (tells c.args.f r.start r.end r.exhausted c.contains.ensures.value c.if-not-contains.true)
 
 pub returns-then-f : goal.returns-then-f
 unfolding interpolated_position
-returns-then-f c = let e : is_fraction c.args.f ≡ true = c.if-not-f.false in rw (e, c.if-f.true)
+returns-then-f c =
+    let r = c.new.ensures in
+    rw (tells c.args.f r.start r.end r.exhausted c.contains.ensures.value c.if-not-contains.false, c.if-f.true)
 
 pub returns-then-f-2 : goal.returns-then-f-2
 unfolding interpolated_position
-returns-then-f-2 c = let e : is_fraction c.args.f ≡ true = c.if-not-f.false in rw (e, c.if-f.false, c.if-f-2.true)
+returns-then-f-2 c =
+    let r = c.new.ensures in
+    rw (tells c.args.f r.start r.end r.exhausted c.contains.ensures.value c.if-not-contains.false, c.if-f.false, c.if-f-2.true)
 
 pub returns : goal.returns
 unfolding interpolated_position
 returns c =
-    let e : is_fraction c.args.f ≡ true = c.if-not-f.false in
+    let r = c.new.ensures in
     rw (
-      e,
+      tells c.args.f r.start r.end r.exhausted c.contains.ensures.value c.if-not-contains.false,
       c.if-f.false,
       c.if-f-2.false,
       c.position_on_great_circle.ensures,
