@@ -1,6 +1,5 @@
 // What is asked of a board: nothing changes.
-ghost use Rattle.std.specs.Prelude.{◌≡◌, ◌*◌, ◌≤◌, length, take, None};
-ghost use Rattle.means.specs.Mean as means;
+ghost use Rattle.std.specs.Prelude.{◌≡◌, ◌*◌, fold, length, None};
 ghost use Rattle.plain.specs.Asking as asked;
 ghost use Rattle.plain.specs.Code.{plain};
 ghost use Rattle.plain.specs.Targets.{most_targets};
@@ -47,13 +46,11 @@ fn columns_of(entries: [Target; MOST_TARGETS]) -> [f64; MOST_PARTS]
     ensures { spec.Columns entries most_targets result × (length entries ≡ most_targets) × (length result ≡ 3 * most_targets) }
 {
     let mut cs = [0.0; MOST_PARTS];
-    let mut i = 0;
-    while i < MOST_TARGETS {
-        let v = vector_of(entries[i]);
+    for (i, t) in entries.iter().enumerate() {
+        let v = vector_of(*t);
         cs[i] = v.x;
         cs[MOST_TARGETS + i] = v.y;
         cs[2 * MOST_TARGETS + i] = v.z;
-        i += 1;
     }
     cs
 }
@@ -72,25 +69,17 @@ pub fn pick(board: Board) -> Result<u16, Refusal>
     ensures { result ≡ asked.pick (plain board) }
 {
     let targets = board.targets;
-    let entries = targets.entries;
-    match soonest(entries, least(targets.count)) {
+    match soonest(&targets.entries[..least(targets.count)]) {
         None => Err(Refusal::NoMeeting),
         Some(best) => Ok(best.identity),
     }
 }
 
-// The least meeting time of the first n targets, and the first of them that has it.
-fn soonest(entries: [Target; MOST_TARGETS], n: usize) -> Option<Best>
-    requires { n ≤ most_targets }
-    ensures { result ≡ means.fold spec.better None (take n entries) }
+// The least meeting time of these targets, and the first of them that has it.
+fn soonest(targets: &[Target]) -> Option<Best>
+    ensures { result ≡ fold spec.better None targets.now }
 {
-    let mut b = None;
-    let mut i = 0;
-    while i < n {
-        b = better(b, entries[i]);
-        i += 1;
-    }
-    b
+    targets.iter().fold(None, |b, t| better(b, *t))
 }
 
 // The best so far, or target t where its line has a found meeting time that is less.

@@ -1,7 +1,6 @@
 -- `pick` meets its contract. The least of the meeting times is a pick.
-use Rattle.std.specs.Prelude.{None}
+use Rattle.std.specs.Prelude.{fold, None}
 use mathlib.Core.Path.{sym, ap, ◌∙◌}
-use Rattle.means.specs.Mean.{fold}
 use Rattle.plain.specs.Code.{plain}
 use Rattle.targets.specs.Asking.{better}
 use Rattle.plain.specs.Targets.{listed}
