@@ -1,19 +1,20 @@
 -- Lists that the loops over the array build, and where a search of a list ends.
+use Rattle.std.specs.Prelude.{Option, Some, None, Ok, Err, nat_le, position}
 use Prim.Native.Nat.{ℕ, suc, ◌+◌, ◌-◌, ◌≤◌, ◌<◌}
 use native.Mathlib.Nat.{min-le_left}
 use native.Mathlib.Numerals.{add-one}
 use native.Mathlib.Omega.{arith}
 use mathlib.Core.Path.{◌≡◌, refl, sym, ap, ◌∙◌}
 use mathlib.Core.Bool.{Bool, true, false, cond}
-use mathlib.Core.List.{List, [], ◌∷◌, ◌++◌, map, append-nil}
-use lib.Dec.{ltb, eqb}
-use borrow.Author.Tests.{lt-ltb, le-ltb, eq-eqb, ne_eqb}
-use Rattle.targets.specs.declared.Spot.TheVariants.{At, Before}
+use mathlib.Core.List.{List, [], ◌∷◌, ◌++◌, map, append-nil, append_assoc}
+use lib.Dec.{ltb, leb, eqb}
+use borrow.Author.Tests.{leb-true, leb-false, lt-ltb, le-ltb, eq-eqb, ne_eqb}
 use lib.ListN.{length-set, length, take, drop, get_or, set, length-take, length-drop, length-append, take-append-drop, drop_of_length-le}
-use lib.Seq.{take-suc-set, drop-set-lt, get_or-drop, take-suc, drop-cons, set_at, append_snoc, length-take-le, get_or-take, take_all, get_or-append-add, take_at}
+use Rattle.std.specs.List.{copy_within, position_from}
+use Rattle.std.proofs.lemmas.Iterator.Adapters.{position_from-zero}
+use lib.Seq.{take-append-add, take-suc-set, drop-set-lt, get_or-drop, take-suc, drop-cons, set_at, append_snoc, length-take-le, get_or-take, take_all, get_or-append-add, take_at}
 use lib.Ieee.{nan}
 use Rattle.plain.specs.declared.targets.Target.{Target}
-use Rattle.plain.specs.declared.targets.Lined.TheVariants.{Bare}
 use Rattle.targets.specs.Slots.{spot_in, spot_from}
 
 module _ {A : Type 0} where
@@ -30,6 +31,19 @@ module _ {A : Type 0} where
   laid s l out i d v hs hl e g =
       rw (e, ← g, drop-cons l i d, set_at (take i s) (get_or l i d) (drop (suc i) l) (get_or s i d) i (length-take-le i s (omega arith)), add-one, take-suc s i d, append_snoc)
 
+  -- an element of the second of two lists
+  pub get_d_past : (xs ys : List A) (i : ℕ) (d : A) → length xs ≤ i → get_or (xs ++ ys) i d ≡ get_or ys (i - length xs) d
+  get_d_past xs ys i d h =
+      let e : length xs + (i - length xs) ≡ i = omega arith in
+      rw e at (get_or-append-add xs ys (i - length xs) d)
+
+  -- what stands in the place that the next store takes
+  pub next : (s l : List A) (i : ℕ) (d : A) → i ≤ length s → get_or (take i s ++ drop i l) i d ≡ get_or l i d
+  next s l i d h =
+      let k : length (take i s) ≡ i = length-take-le i s h in
+      let z : i + (i - i) ≡ i = omega arith in
+      get_d_past (take i s) (drop i l) i d (omega arith) ∙ rw (k, get_or-drop, z)
+
   -- the whole list is laid
   pub laid-all : (s l out : List A) (i n : ℕ) → i ≡ n → length l ≡ n → out ≡ take i s ++ drop i l → out ≡ take n s
   laid-all s l out i n e h g = g ∙ rw (drop_of_length-le l {i = i} (omega arith), append-nil, e)
@@ -38,46 +52,22 @@ module _ {A : Type 0} where
   pub whole : (ts rest : List A) (n p : ℕ) → length ts ≡ n → n ≤ p → ts ≡ take n (take p ts ++ rest)
   whole ts rest n p e h = sym (rw (take_all p ts (omega arith)) (take_at ts rest n e))
 
-  -- an element of the second of two lists
-  pub get_d_past : (xs ys : List A) (i : ℕ) (d : A) → length xs ≤ i → get_or (xs ++ ys) i d ≡ get_or ys (i - length xs) d
-  get_d_past xs ys i d h =
-      let e : length xs + (i - length xs) ≡ i = omega arith in
-      rw e at (get_or-append-add xs ys (i - length xs) d)
+  -- what a copy within the array leaves: the elements after p one place earlier, the last where it was
+  pub removed-within : (ts : List A) (p n : ℕ) → length ts ≡ n → p < n → copy_within ts (p + 1) n p ≡ take n (remove_at p ts ++ drop (n - 1) ts)
+  removed-within ts p n full inside =
+      let j : p + (n - (p + 1)) ≡ n - 1 = omega arith in
+      let l : length (remove_at p ts ++ drop (n - 1) ts) ≤ n = rw (length-append, length-append, length-take-le p ts (omega arith), length-drop, length-drop) (omega arith) in
+      rw (j, take_all (n - (p + 1)) (drop (p + 1) ts) (rw length-drop (omega arith))) (sym (take_all n (remove_at p ts ++ drop (n - 1) ts) l))
 
-  module _ (ts : List A) (p : ℕ) (inside : p < length ts) where
-    -- what an insertion lays over the array: the front with the new element, then the rest from p
-    pub front : (t : A) → take (p + 1) (set ts p t) ++ drop p ts ≡ insert_at p t ts
-    front t = rw (add-one, take-suc-set ts p t, append_snoc)
-
-    length-front-set : (t : A) → length (take (p + 1) (set ts p t)) ≡ p + 1
-    length-front-set t = length-take-le (p + 1) (set ts p t) (simp length-set (omega arith))
-
-    pub length-inserting : (t : A) → length (take (p + 1) (set ts p t) ++ drop p ts) ≡ length ts + 1
-    length-inserting t = rw (length-append, length-front-set t, length-drop) (omega arith)
-
-    pub inserting : (t : A) → set ts p t ≡ take (p + 1) (take (p + 1) (set ts p t) ++ drop p ts) ++ drop (p + 1) ts
-    inserting t =
-        let h : p < p + 1 = omega arith in
-        rw (take_at (take (p + 1) (set ts p t)) (drop p ts) (p + 1) (length-front-set t), ← drop-set-lt (p + 1) ts p t h) (sym (take-append-drop (p + 1) (set ts p t)))
-
-    pub inserted-at : (t : A) (i : ℕ) (d : A) → p < i → get_or (take (p + 1) (set ts p t) ++ drop p ts) i d ≡ get_or ts (i - 1) d
-    inserted-at t i d h =
-        let l : length (take (p + 1) (set ts p t)) ≡ p + 1 = length-front-set t in
-        let e : p + (i - (p + 1)) ≡ i - 1 = omega arith in
-        get_d_past (take (p + 1) (set ts p t)) (drop p ts) i d (omega arith) ∙ rw (l, get_or-drop, e)
-
-    -- what a removal lays over the array
-    pub length-removing : length (remove_at p ts) ≡ length ts - 1
-    length-removing = rw (length-append, length-take-le p ts (omega arith), length-drop) (omega arith)
-
-    pub removing : ts ≡ take p (remove_at p ts) ++ drop p ts
-    removing = rw (take_at (take p ts) (drop (p + 1) ts) p (length-take-le p ts (omega arith))) (sym (take-append-drop p ts))
-
-    pub removed-at : (i : ℕ) (d : A) → p ≤ i → get_or (remove_at p ts) i d ≡ get_or ts (i + 1) d
-    removed-at i d h =
-        let l : length (take p ts) ≡ p = length-take-le p ts (omega arith) in
-        let e : p + 1 + (i - p) ≡ i + 1 = omega arith in
-        get_d_past (take p ts) (drop (p + 1) ts) i d (omega arith) ∙ rw (l, get_or-drop, e)
+  -- the elements from p on one place later, and then t in place p
+  pub inserted-within : (ts : List A) (p n : ℕ) (t : A) → length ts ≡ n → p < n → set (copy_within ts p (n - 1) (p + 1)) p t ≡ take n (insert_at p t ts)
+  inserted-within ts p n t full inside =
+      let k : length (take p ts) + suc (n - 1 - p) ≡ n = rw (length-take-le p ts (omega arith)) (omega arith) in
+      let inside' : p < length ts = omega arith in
+      let e : drop (p + 1 + (n - 1 - p)) ts ≡ [] = drop_of_length-le ts (omega arith) in
+      rw (e, append-nil, add-one, take-suc ts p t inside', append_snoc)
+      (set_at (take p ts) (get_or ts p t) (take (n - 1 - p) (drop p ts)) t p (length-take-le p ts (omega arith))
+      ∙ sym (rw k at (take-append-add (take p ts) (t ∷ drop p ts) (suc (n - 1 - p)))))
 
 pub length-map : {A B : Type 0} (f : A → B) (l : List A) → length (map f l) ≡ length l
 length-map f [] = refl
@@ -96,35 +86,74 @@ absent =
                   bearing = record { radians = nan };
                   speed = record { mps = nan };
                 };
-            line = Bare;
+            line = None;
           };
     }
 
--- a search of the first n of a list has passed i of them: it goes on past an identity below the one sought, and ends at one that is not,
--- or at n
-module _ (x n : ℕ) (ks : List ℕ) (i : ℕ) (fit : n ≤ length ks) (h : spot_in 0 x (take n ks) ≡ spot_in i x (drop i (take n ks))) where
-  look : i < n → drop i (take n ks) ≡ get_or ks i 0 ∷ drop (suc i) (take n ks)
-  look below =
-      let l : i < length (take n ks) = rw (length-take-le n ks) below in
-      rw (drop-cons (take n ks) i 0, get_or-take n ks i 0)
+-- a search of names ends at the first that is not below the one sought
+module _ {X : Type 0} (name : X → ℕ) (x : ℕ) where
+  abbrev first : ℕ → List X → Option ℕ
+  first i l = position_from (λ y. nat_le x (name y)) i l
 
-  pub search-on : i < n → get_or ks i 0 < x → spot_in 0 x (take n ks) ≡ spot_in (i + 1) x (drop (i + 1) (take n ks))
+  from-none : (i : ℕ) (l : List X) → first i l ≡ None → Err (i + length l) ≡ spot_in i x (map name l)
   unfolding spot_in
-  search-on below b = h ∙ rw (look below, lt-ltb (get_or ks i 0) x b, add-one)
+  from-none i [] e = ap Err (let z : i + 0 ≡ i = omega arith in z)
+  from-none i (y ∷ l) e = go (leb x (name y)) refl e (from-none (i + 1) l)
+    where
+      go : (b : Bool) → leb x (name y) ≡ b → cond b (Some i) (first (i + 1) l) ≡ None
+          → (first (i + 1) l ≡ None → Err (i + 1 + length l) ≡ spot_in (i + 1) x (map name l)) → Err (i + suc (length l)) ≡ spot_in i x (map name (y ∷ l))
+      go true q e ih = let z : ◌≡◌ {A = ℕ} 0 1 = cc in absurd (omega arith)
+      go false q e ih =
+          let k : i + suc (length l) ≡ i + 1 + length l = omega arith in
+          rw (k, lt-ltb (name y) x (leb-false x (name y) q), ← add-one i) (ih e)
 
-  pub search-held : i < n → x ≤ get_or ks i 0 → x ≡ get_or ks i 0 → At i ≡ spot_in 0 x (take n ks)
+  -- the first that is not below stands at j
+  record Stops (i j : ℕ) (l : List X) (d : X) : Type 0 where
+    from : i ≤ j
+    held : x ≡ name (get_or l (j - i) d) → Ok j ≡ spot_in i x (map name l)
+    free : (x ≡ name (get_or l (j - i) d) → ⊥) → Err j ≡ spot_in i x (map name l)
+
+  from-some : (i j : ℕ) (l : List X) (d : X) → first i l ≡ Some j → Stops i j l d
   unfolding spot_in
-  search-held below b e = sym (h ∙ rw (look below, le-ltb (get_or ks i 0) x b, eq-eqb x (get_or ks i 0) e))
+  from-some i j [] d e = let z : ◌≡◌ {A = ℕ} 0 1 = cc in absurd (omega arith)
+  from-some i j (y ∷ l) d e = go (leb x (name y)) refl e (from-some (i + 1) j l d)
+    where
+      go : (b : Bool) → leb x (name y) ≡ b → cond b (Some i) (first (i + 1) l) ≡ Some j
+          → (first (i + 1) l ≡ Some j → Stops (i + 1) j l d) → Stops i j (y ∷ l) d
+      go true q e ih =
+          let same : i ≡ j = cc in
+          let none : i - i ≡ 0 = omega arith in
+          let above : ltb (name y) x ≡ false = le-ltb (name y) x (leb-true x (name y) q) in
+          rw (← same) (record {
+            from = omega arith;
+            held = λ h. sym (rw (above, eq-eqb x (name y) (h ∙ ap (λ (k : ℕ). name (get_or (y ∷ l) k d)) none)));
+            free = λ h. sym (rw (above, ne_eqb x (name y) (λ z. h (z ∙ ap (λ (k : ℕ). name (get_or (y ∷ l) k d)) (sym none)))));
+          })
+      go false q e ih =
+          let s = ih e in
+          let past : j - i ≡ suc (j - (i + 1)) = omega (arith, s.from) in
+          let below : ltb (name y) x ≡ true = lt-ltb (name y) x (leb-false x (name y) q) in
+          record {
+            from = omega (arith, s.from);
+            held = λ h. rw (below, ← add-one i) (s.held (h ∙ ap (λ (k : ℕ). name (get_or (y ∷ l) k d)) past));
+            free = λ h. rw (below, ← add-one i) (s.free (λ z. h (z ∙ ap (λ (k : ℕ). name (get_or (y ∷ l) k d)) (sym past))));
+          }
 
-  pub search-free : i < n → x ≤ get_or ks i 0 → (x ≡ get_or ks i 0 → ⊥) → Before i ≡ spot_in 0 x (take n ks)
-  unfolding spot_in
-  search-free below b e = sym (h ∙ rw (look below, le-ltb (get_or ks i 0) x b, ne_eqb x (get_or ks i 0) e))
+  -- the same of `position`
+  abbrev place : List X → Option ℕ
+  place l = position (λ y. nat_le x (name y)) l
 
-pub search-out : (x n : ℕ) (ks : List ℕ) (i : ℕ) → n ≤ length ks → spot_in 0 x (take n ks) ≡ spot_in i x (drop i (take n ks)) → n ≤ i → Before i ≡ spot_in 0 x (take n ks)
-unfolding spot_in
-search-out x n ks i fit h out =
-    let e : drop i (take n ks) ≡ [] = drop_of_length-le (take n ks) {i = i} (rw (length-take-le n ks) out) in
-    sym (h ∙ rw e)
+  pub stops-none : (l : List X) → place l ≡ None → Err (length l) ≡ spot_in 0 x (map name l)
+  stops-none l e = ap Err (let z : length l ≡ 0 + length l = omega arith in z) ∙ from-none 0 l (sym (position_from-zero (λ y. nat_le x (name y)) l) ∙ e)
+
+  stops : (l : List X) (j : ℕ) (d : X) → place l ≡ Some j → Stops 0 j l d
+  stops l j d e = from-some 0 j l d (sym (position_from-zero (λ y. nat_le x (name y)) l) ∙ e)
+
+  pub stops-held : (l : List X) (j : ℕ) (d : X) → place l ≡ Some j → x ≡ name (get_or l j d) → Ok j ≡ spot_in 0 x (map name l)
+  stops-held l j d e h = (stops l j d e).held (h ∙ ap (λ (k : ℕ). name (get_or l k d)) (let z : j ≡ j - 0 = omega arith in z))
+
+  pub stops-free : (l : List X) (j : ℕ) (d : X) → place l ≡ Some j → (x ≡ name (get_or l j d) → ⊥) → Err j ≡ spot_in 0 x (map name l)
+  stops-free l j d e h = (stops l j d e).free (λ z. h (z ∙ ap (λ (k : ℕ). name (get_or l k d)) (let w : j - 0 ≡ j = omega arith in w)))
 
 -- what follows from a choice by a test follows from each side
 pub cond_cases : {A G : Type 0} (b : Bool) {u v w : A} → (u ≡ w → G) → (v ≡ w → G) → cond b u v ≡ w → G
@@ -132,7 +161,7 @@ cond_cases true f g e = f e
 cond_cases false f g e = g e
 
 -- a place that a search gives is within the list
-pub held-within : (i x : ℕ) (l : List Target) (p : ℕ) → spot_from i x l ≡ At p → p < i + length l
+pub held-within : (i x : ℕ) (l : List Target) (p : ℕ) → spot_from i x l ≡ Ok p → p < i + length l
 unfolding spot_from spot_in
 held-within i x [] p e = let z : ◌≡◌ {A = ℕ} 0 1 = cc in omega arith
 held-within i x (t ∷ ts) p e =
@@ -140,7 +169,7 @@ held-within i x (t ∷ ts) p e =
     (cond_cases (eqb x t.identity) (λ q. let z : i ≡ p = cc in omega arith) (λ q. let z : ◌≡◌ {A = ℕ} 0 1 = cc in omega arith))
     e
 
-pub free-within : (i x : ℕ) (l : List Target) (p : ℕ) → spot_from i x l ≡ Before p → p ≤ i + length l
+pub free-within : (i x : ℕ) (l : List Target) (p : ℕ) → spot_from i x l ≡ Err p → p ≤ i + length l
 unfolding spot_from spot_in
 free-within i x [] p e = let z : i ≡ p = cc in omega arith
 free-within i x (t ∷ ts) p e =
@@ -149,8 +178,8 @@ free-within i x (t ∷ ts) p e =
     e
 
 -- a place that a search of the first n gives is below n
-pub held_below : (x n : ℕ) (ts : List Target) (p : ℕ) → spot_from 0 x (take n ts) ≡ At p → p < n
+pub held_below : (x n : ℕ) (ts : List Target) (p : ℕ) → spot_from 0 x (take n ts) ≡ Ok p → p < n
 held_below x n ts p e = omega (arith, held-within 0 x (take n ts) p e, length-take n ts, min-le_left n (length ts))
 
-pub free-below : (x n : ℕ) (ts : List Target) (p : ℕ) → spot_from 0 x (take n ts) ≡ Before p → p ≤ n
+pub free-below : (x n : ℕ) (ts : List Target) (p : ℕ) → spot_from 0 x (take n ts) ≡ Err p → p ≤ n
 free-below x n ts p e = omega (arith, free-within 0 x (take n ts) p e, length-take n ts, min-le_left n (length ts))

@@ -8,4 +8,4 @@ returns-in-Ok c = rw (c.in-Ok.is, c.as_vec3.ensures)
 
 pub returns-in-Err : goal.returns-in-Err
 unfolding mean_told
-returns-in-Err c = rw (c.in-Err.is, c.number.ensures)
+returns-in-Err c = rw c.in-Err.is

@@ -2,14 +2,14 @@
 use Rattle.sessions.specs.Session.{told}
 use Rattle.sessions.proofs.session.told.Goals as goal
 
-pub returns-in-Done : goal.returns-in-Done
+pub returns-in-Ok-None : goal.returns-in-Ok-None
 unfolding told
-returns-in-Done c = rw c.in-Done.is
+returns-in-Ok-None c = rw (c.in-Ok-None.is, rw c.in-Ok-None.is at c.in-Ok-None.field-0-is)
 
-pub returns-in-Solved : goal.returns-in-Solved
+pub returns-in-Ok-Some : goal.returns-in-Ok-Some
 unfolding told
-returns-in-Solved c = rw c.in-Solved.is
+returns-in-Ok-Some c = rw (c.in-Ok-Some.is, rw c.in-Ok-Some.is at c.in-Ok-Some.field-0-is)
 
-pub returns-in-Refused : goal.returns-in-Refused
+pub returns-in-Err : goal.returns-in-Err
 unfolding told
-returns-in-Refused c = rw (c.number.ensures, c.in-Refused.is)
+returns-in-Err c = rw c.in-Err.is

@@ -49,9 +49,7 @@ columns-on ts n cs v below full e so =
 
 pub loop-i-preserved : goal.loop-i-preserved
 loop-i-preserved c = (
-  search rules,
-  search rules,
-  simp length-set c.loop-i.invariant.2,
+  simp length-set c.loop-i.invariant.0,
   columns-on c.args.entries c.loop-i.i c.loop-i.cs c.vector_of-v.result (omega arith) (omega arith)
-      c.vector_of-v.ensures c.loop-i.invariant.3,
+      c.vector_of-v.ensures c.loop-i.invariant.1,
 )

@@ -1,5 +1,5 @@
 -- `columns_of` lays the parts of the positions in one array, target by target.
-use Prim.Native.Nat.{◌*◌, ◌-◌, ◌≤◌}
+use Prim.Native.Nat.{◌*◌}
 use mathlib.Core.Path.{◌≡◌}
 use lib.ListN.{length}
 use Rattle.plain.specs.Targets.{most_targets}
@@ -7,7 +7,4 @@ use Rattle.targets.specs.Asking.{Columns}
 use Rattle.targets.proofs.asking.columns_of.Given as goal
 
 abbrev pub invariant-loop-i : goal.invariant-loop-i
-invariant-loop-i l = (l.i ≤ most_targets) × (length l.entries ≡ most_targets) × (length l.cs ≡ 3 * most_targets) × Columns l.entries l.i l.cs
-
-abbrev pub decreases-loop-i : goal.decreases-loop-i
-decreases-loop-i l = most_targets - l.i
+invariant-loop-i l = (length l.cs ≡ 3 * most_targets) × Columns l.fn.entries l.i l.cs
