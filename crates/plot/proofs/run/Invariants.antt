@@ -2,9 +2,6 @@
 use Rattle.plot.proofs.Whole.{Replied}
 use Rattle.plot.proofs.run.Given as goal
 
-abbrev pub invariant-loop-turns : goal.invariant-loop-turns
-invariant-loop-turns g l =
+abbrev pub invariant-loop-_ : goal.invariant-loop-_
+invariant-loop-_ g l =
     Replied (g.R.Read.remaining l.initial.input) (g.R.Read.remaining l.input) (g.W.Write.contents l.initial.out) (g.W.Write.contents l.out) l.stream
-
-abbrev pub decreases-loop-turns : goal.decreases-loop-turns
-decreases-loop-turns g l = l.turns
