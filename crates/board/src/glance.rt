@@ -4,19 +4,21 @@ ghost use Rattle.std.specs.Prelude.{◌≡◌};
 ghost use Rattle.board.specs.Glance as spec;
 
 use crate::board::{own_after, refuses, track_after};
+use jord::vehicle::Vehicle;
 use plain::call::{Answer, Call, Fix};
-use plain::state::{Board, Own, Tracked};
-use plain::targets::{Held, Lined, MOST_TARGETS, Target, Targets};
+use plain::line::Ends;
+use plain::state::Board;
+use plain::targets::{Held, MOST_TARGETS, Target, Targets};
 use questions::call::vehicle;
 use questions::{ask, ask_ends, ask_fix, identity_asked};
-use targets::{Spot, seek};
+use targets::seek;
 
 // All of a board but the entries of its targets.
 #[derive(Clone, Copy)]
 pub struct Setting {
     pub radius: f64,
-    pub own: Own,
-    pub track: Tracked,
+    pub own: Option<Vehicle>,
+    pub track: Option<Ends>,
     pub count: usize,
     pub total: u32,
 }
@@ -77,8 +79,8 @@ pub fn glance(setting: Setting, ids: &[u16], call: Call) -> Hint
     match call {
         Call::Report(identity, fix) => at_report(setting.count, ids, identity, fix),
         Call::Withdraw(_) => Hint::Unclear,
-        Call::OwnShip(fix) => at_setting(setting, call, ask_fix(fix, Answer::Done)),
-        Call::Track(start, end) => at_setting(setting, call, ask_ends(start, end, Answer::Done)),
+        Call::OwnShip(fix) => at_setting(setting, call, ask_fix(fix, Ok(None))),
+        Call::Track(start, end) => at_setting(setting, call, ask_ends(start, end, Ok(None))),
         Call::Solve(_) => Hint::Unclear,
     }
 }
@@ -87,20 +89,20 @@ pub fn glance(setting: Setting, ids: &[u16], call: Call) -> Hint
 fn at_report(count: usize, ids: &[u16], identity: u16, fix: Fix) -> Hint
     ensures { result ≡ spec.at_report count ids.now identity fix }
 {
-    let answer = ask(identity_asked(identity), ask_fix(fix, Answer::Done));
+    let answer = ask(identity_asked(identity), ask_fix(fix, Ok(None)));
     if refuses(answer) {
         return Hint::Stays(answer);
     }
     match seek(ids, count, identity) {
-        Spot::At(p) => {
+        Ok(p) => {
             let held = Held {
                 report: vehicle(fix),
-                line: Lined::Bare,
+                line: None,
             };
             let target = Target { identity, held };
             Hint::Puts(p, target)
         }
-        Spot::Before(_) => Hint::Unclear,
+        Err(_) => Hint::Unclear,
     }
 }
 

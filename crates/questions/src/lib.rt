@@ -7,12 +7,11 @@ ghost use Rattle.plain.specs.Questions as spec;
 use crate::call::position;
 use crate::line::solve_line;
 use jord::positions::NVector;
+use jord::vehicle::Vehicle;
 use patterns::magnitude;
 use plain::call::{Answer, Coordinates, Fix, Refusal};
-use plain::line::Scene;
-use plain::questions::{Said, Seen};
-use plain::state::{Own, Tracked};
-use plain::targets::{Found, MOST_TARGETS};
+use plain::line::{Ends, Scene};
+use plain::targets::{Held, MOST_TARGETS};
 use spherical::sphere::Sphere;
 
 pub mod call;
@@ -22,20 +21,20 @@ pub mod line;
 const SLACK: f64 = 9.094947017729282e-13;
 
 // The question's no, or what the questions after it come to.
-pub fn ask(said: Said, answer: Answer) -> Answer
+pub fn ask(said: Result<(), Refusal>, answer: Answer) -> Answer
     ensures { result ≡ spec.ask said answer }
 {
     match said {
-        Said::No(refusal) => Answer::Refused(refusal),
-        Said::Yes => answer,
+        Err(refusal) => Err(refusal),
+        Ok(()) => answer,
     }
 }
 
 // Yes where it is so, else no.
-fn unless(so: bool, refusal: Refusal) -> Said
+fn unless(so: bool, refusal: Refusal) -> Result<(), Refusal>
     ensures { result ≡ spec.unless so refusal }
 {
-    if so { Said::Yes } else { Said::No(refusal) }
+    if so { Ok(()) } else { Err(refusal) }
 }
 
 // Whether x is neither a NaN nor infinite.
@@ -60,21 +59,21 @@ fn unit(p: NVector) -> bool
 }
 
 // Is the radius finite and above zero?
-pub fn radius_asked(radius: f64) -> Said
+pub fn radius_asked(radius: f64) -> Result<(), Refusal>
     ensures { result ≡ spec.radius_asked radius }
 {
     unless(finite(radius) & (0.0 < radius), Refusal::RadiusNotPositive)
 }
 
 // Is the identity other than 0?
-pub fn identity_asked(identity: u16) -> Said
+pub fn identity_asked(identity: u16) -> Result<(), Refusal>
     ensures { result ≡ spec.identity_asked identity }
 {
     unless(identity != 0, Refusal::IdentityZero)
 }
 
 // Are all numbers of the fix finite?
-fn fix_finite_asked(fix: Fix) -> Said
+fn fix_finite_asked(fix: Fix) -> Result<(), Refusal>
     ensures { result ≡ spec.fix_finite_asked fix }
 {
     let at = fix.position;
@@ -85,7 +84,7 @@ fn fix_finite_asked(fix: Fix) -> Said
 }
 
 // Is the position of the fix of length one?
-fn fix_unit_asked(fix: Fix) -> Said
+fn fix_unit_asked(fix: Fix) -> Result<(), Refusal>
     ensures { result ≡ spec.fix_unit_asked fix }
 {
     let at = fix.position;
@@ -93,7 +92,7 @@ fn fix_unit_asked(fix: Fix) -> Said
 }
 
 // Is the speed zero or more?
-fn speed_asked(fix: Fix) -> Said
+fn speed_asked(fix: Fix) -> Result<(), Refusal>
     ensures { result ≡ spec.speed_asked fix }
 {
     unless(0.0 <= fix.speed, Refusal::SpeedNegative)
@@ -110,14 +109,14 @@ pub fn ask_fix(fix: Fix, answer: Answer) -> Answer
 }
 
 // Are all numbers of the two positions finite?
-fn ends_finite_asked(start: Coordinates, end: Coordinates) -> Said
+fn ends_finite_asked(start: Coordinates, end: Coordinates) -> Result<(), Refusal>
     ensures { result ≡ spec.ends_finite_asked start end }
 {
     unless(all_finite(start) & all_finite(end), Refusal::NotFinite)
 }
 
 // Are both positions of length one?
-fn ends_unit_asked(start: Coordinates, end: Coordinates) -> Said
+fn ends_unit_asked(start: Coordinates, end: Coordinates) -> Result<(), Refusal>
     ensures { result ≡ spec.ends_unit_asked start end }
 {
     unless(
@@ -127,7 +126,7 @@ fn ends_unit_asked(start: Coordinates, end: Coordinates) -> Said
 }
 
 // Are the ends a great circle?
-fn circle_asked(start: Coordinates, end: Coordinates) -> Said
+fn circle_asked(start: Coordinates, end: Coordinates) -> Result<(), Refusal>
     ensures { result ≡ spec.circle_asked start end }
 {
     unless(
@@ -150,40 +149,40 @@ pub fn ask_ends(start: Coordinates, end: Coordinates, answer: Answer) -> Answer
 }
 
 // Does the board hold this identity?
-pub fn held_asked(found: Found) -> Said
+pub fn held_asked(found: Option<Held>) -> Result<(), Refusal>
     ensures { result ≡ spec.held_asked found }
 {
     match found {
-        Found::Nothing => Said::No(Refusal::NotHeld),
-        Found::There(_) => Said::Yes,
+        None => Err(Refusal::NotHeld),
+        Some(_) => Ok(()),
     }
 }
 
 // Is the identity held, or are fewer than 64 held?
-pub fn room_asked(found: Found, count: usize) -> Said
+pub fn room_asked(found: Option<Held>, count: usize) -> Result<(), Refusal>
     ensures { result ≡ spec.room_asked found count }
 {
     match found {
-        Found::Nothing => unless(count < MOST_TARGETS, Refusal::BoardFull),
-        Found::There(_) => Said::Yes,
+        None => unless(count < MOST_TARGETS, Refusal::BoardFull),
+        Some(_) => Ok(()),
     }
 }
 
 // Does the board hold this identity? Has an own ship been set? A track? What a solve then sees.
-pub fn see(found: Found, own: Own, track: Tracked) -> Seen
+pub fn see(found: Option<Held>, own: Option<Vehicle>, track: Option<Ends>) -> Result<Scene, Refusal>
     ensures { result ≡ spec.see found own track }
 {
-    let Found::There(held) = found else {
-        return Seen::Lacks(Refusal::NotHeld);
+    let Some(held) = found else {
+        return Err(Refusal::NotHeld);
     };
-    let Own::Ship(ship) = own else {
-        return Seen::Lacks(Refusal::NoOwnShip);
+    let Some(ship) = own else {
+        return Err(Refusal::NoOwnShip);
     };
-    let Tracked::Along(ends) = track else {
-        return Seen::Lacks(Refusal::NoTrack);
+    let Some(ends) = track else {
+        return Err(Refusal::NoTrack);
     };
     let report = held.report;
-    Seen::Sees(Scene {
+    Ok(Scene {
         own: ship,
         track: ends,
         report,
@@ -191,11 +190,11 @@ pub fn see(found: Found, own: Own, track: Tracked) -> Seen
 }
 
 // The line of what is seen, or what lacks.
-pub fn solved(radius: f64, seen: Seen) -> Answer
+pub fn solved(radius: f64, seen: Result<Scene, Refusal>) -> Answer
     ensures { result ≡ spec.solved radius seen }
 {
     match seen {
-        Seen::Lacks(refusal) => Answer::Refused(refusal),
-        Seen::Sees(scene) => Answer::Solved(solve_line(radius, scene)),
+        Err(refusal) => Err(refusal),
+        Ok(scene) => Ok(Some(solve_line(radius, scene))),
     }
 }
