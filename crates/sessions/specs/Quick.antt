@@ -1,5 +1,5 @@
 -- What a quick look at a session tells of a frame, without the entries of its targets. Definitions only.
-use Rattle.std.specs.Prelude.{ℕ, ◌<◌, Bool, cond, List, map, set}
+use Rattle.std.specs.Prelude.{ℕ, ◌<◌, List, map, set, Option, Some, None, option_map}
 use Rattle.plain.specs.Targets.{most_targets, bare_target}
 use Rattle.board.specs.Glance.{board_of, Under, glance}
 use Rattle.plain.specs.declared.call.Call.{Call}
@@ -9,52 +9,61 @@ use Rattle.board.specs.declared.glance.Hint.TheVariants as hint
 use Rattle.plain.specs.declared.targets.Target.{Target}
 use Rattle.wire.specs.declared.frame.Frame.{Frame}
 use Rattle.wire.specs.declared.frame.Frame.TheVariants as frame
+use Rattle.wire.specs.declared.kind.Kind.{Kind}
 use Rattle.sessions.specs.declared.quick.Quick.{Quick}
-use Rattle.sessions.specs.declared.quick.Quick.TheVariants.{Stays, Puts, Sweeps, Unclear}
+use Rattle.sessions.specs.declared.quick.Quick.TheVariants.{Stays, Puts, Sweeps}
 use Rattle.wire.specs.declared.reply.Reply.{Reply}
 use Rattle.wire.specs.declared.reply.Reply.TheVariants as reply
 use Rattle.sessions.specs.declared.session.Session.{Session}
 use Rattle.sessions.specs.Session.{kind_of, told, Stepping}
 
--- the session of a setting and entries
-unfoldable pub session_of : Bool → Setting → List Target → Session
-session_of b s es = record { started = b; board = board_of s es }
+-- the session of a setting, if it has one, and entries
+unfoldable pub session_of : Option Setting → List Target → Session
+session_of o es = record { board = option_map (λ s. board_of s es) o }
 
 -- ---- what it says of the sessions
 
+-- where there is a setting, the targets that stand have these identities
+unfoldable pub Standing : Option Setting → List ℕ → List Target → Type 0
+Standing None ids es = Unit {0}
+Standing (Some s) ids es = Under s ids es
+
 -- what is told holds of every session of the setting whose targets have the identities; that nothing is told is always right
-unfoldable pub Quickly : Bool → Setting → List ℕ → Frame → Quick → Type 0
-Quickly b s ids f (Stays y) = (es : List Target) → Under s ids es → Stepping (session_of b s es) f (record { session = session_of b s es; reply = y })
-Quickly b s ids f (Puts k p t) =
-    (es : List Target) → Under s ids es
-    → (p < most_targets) × Under s ids (set es p t) × Stepping (session_of b s es) f (record { session = session_of b s (set es p t); reply = reply.Done k })
-Quickly b s ids f (Sweeps k q) =
-    (es : List Target) → Under s ids es
-    → Under q ids (map bare_target es) × Stepping (session_of b s es) f (record { session = session_of b q (map bare_target es); reply = reply.Done k })
-Quickly b s ids f Unclear = Unit {0}
+unfoldable pub Quickly : Option Setting → List ℕ → Option Frame → Option Quick → Type 0
+Quickly o ids f (Some (Stays y)) = (es : List Target) → Standing o ids es → Stepping (session_of o es) f (record { session = session_of o es; reply = y })
+Quickly o ids f (Some (Puts k p t)) =
+    (es : List Target) → Standing o ids es
+    → (p < most_targets) × Standing o ids (set es p t) × Stepping (session_of o es) f (record { session = session_of o (set es p t); reply = reply.Done k })
+Quickly o ids f (Some (Sweeps k q)) =
+    (es : List Target) → Standing o ids es
+    → Standing (Some q) ids (map bare_target es)
+        × Stepping (session_of o es) f (record { session = session_of (Some q) (map bare_target es); reply = reply.Done k })
+Quickly o ids f None = Unit {0}
 
 -- ---- what is told of a frame
 
 -- the total, or number 1 where there is no board
-abbrev pub total_reply : Bool → Setting → Reply
-total_reply b s = cond b (reply.Total s.total) reply.NotAFrame
+abbrev pub total_reply : Option Setting → Reply
+total_reply None = reply.NotAFrame
+total_reply (Some s) = reply.Total s.total
 
 -- what a glance tells of a call of this kind
-unfoldable pub hinted : ℕ → Hint → Quick
-hinted k (hint.Stays a) = Stays (told k a)
-hinted k (hint.Puts p t) = Puts k p t
-hinted k (hint.Sweeps q) = Sweeps k q
-hinted k hint.Unclear = Unclear
+unfoldable pub hinted : Kind → Hint → Option Quick
+hinted k (hint.Stays a) = Some (Stays (told k a))
+hinted k (hint.Puts p t) = Some (Puts k p t)
+hinted k (hint.Sweeps q) = Some (Sweeps k q)
+hinted k hint.Unclear = None
 
 -- a call: number 1 where there is no board
-unfoldable pub at_call : Bool → Setting → List ℕ → Call → Quick
-at_call b s ids c = cond b (hinted (kind_of c) (glance s ids c)) (Stays reply.NotAFrame)
+unfoldable pub at_call : Option Setting → List ℕ → Call → Option Quick
+at_call None ids c = Some (Stays reply.NotAFrame)
+at_call (Some s) ids c = hinted (kind_of c) (glance s ids c)
 
 -- what a frame makes of every session of the setting whose targets have the identities; a 00, a mean and a pick need the entries
-unfoldable pub look : Bool → Setting → List ℕ → Frame → Quick
-look b s ids (frame.Fresh r) = Unclear
-look b s ids (frame.Told c) = at_call b s ids c
-look b s ids frame.Mean = Unclear
-look b s ids frame.Pick = Unclear
-look b s ids frame.Total = Stays (total_reply b s)
-look b s ids frame.NotAFrame = Stays reply.NotAFrame
+unfoldable pub look : Option Setting → List ℕ → Option Frame → Option Quick
+look o ids (Some (frame.Fresh r)) = None
+look o ids (Some (frame.Told c)) = at_call o ids c
+look o ids (Some frame.Mean) = None
+look o ids (Some frame.Pick) = None
+look o ids (Some frame.Total) = Some (Stays (total_reply o))
+look o ids None = Some (Stays reply.NotAFrame)

@@ -1,5 +1,5 @@
 -- A session: a plain board, or none yet. What one frame makes of it, and what it is answered. Definitions only.
-use Rattle.std.specs.Prelude.{ℕ, cond, ◌≡◌, Option, Some, None, Result, Ok, Err}
+use Rattle.std.specs.Prelude.{ℕ, ◌≡◌, option_map, Option, Some, None, Result, Ok, Err}
 use Rattle.plain.specs.declared.call.Refusal.{Refusal}
 use Rattle.plain.specs.Asking.{mean, pick, choice_number, choice_identity}
 use Rattle.plain.specs.Board.{Plain, fresh, begins, answer, after}
@@ -13,6 +13,8 @@ use Rattle.means.specs.declared.Mean.TheVariants.{Position, Empty, Antipodal}
 use Rattle.jord.specs.Positions.{as_vec3}
 use Rattle.wire.specs.declared.frame.Frame.{Frame}
 use Rattle.wire.specs.declared.frame.Frame.TheVariants as frame
+use Rattle.wire.specs.declared.kind.Kind.{Kind}
+use Rattle.wire.specs.declared.kind.Kind.TheVariants as kind
 use Rattle.wire.specs.declared.reply.Reply.{Reply}
 use Rattle.wire.specs.declared.reply.Reply.TheVariants as reply
 use Rattle.sessions.specs.declared.session.Session.{Session}
@@ -21,29 +23,29 @@ use Rattle.sessions.specs.declared.session.Stepped.{Stepped}
 -- ---- the reply to an answer
 
 -- "01 identity, position, bearing, speed; 02 identity; 03 as 01 without identity; 04 two positions; 05 identity"
-abbrev pub kind_of : Call → ℕ
-kind_of (Report i f) = 1
-kind_of (Withdraw i) = 2
-kind_of (OwnShip f) = 3
-kind_of (Track s e) = 4
-kind_of (Solve i) = 5
+abbrev pub kind_of : Call → Kind
+kind_of (Report i f) = kind.Report
+kind_of (Withdraw i) = kind.Withdraw
+kind_of (OwnShip f) = kind.OwnShip
+kind_of (Track s e) = kind.Track
+kind_of (Solve i) = kind.Solve
 
 -- "kind, number (00 done), then the answer"; "Refused: kind and number alone"
-unfoldable pub told : ℕ → Answer → Reply
-told kind (Ok None) = reply.Done kind
-told kind (Ok (Some l)) = reply.Solved l
-told kind (Err q) = reply.Refused kind (answer_number (Err q))
+unfoldable pub told : Kind → Answer → Reply
+told k (Ok None) = reply.Done k
+told k (Ok (Some l)) = reply.Solved l
+told k (Err q) = reply.Refused k (answer_number (Err q))
 
 -- "06 three floats"
 unfoldable pub mean_told : Mean → Reply
 mean_told (Position p) = reply.Mean (as_vec3 p)
-mean_told Empty = reply.Refused 6 (means.number_of Empty)
-mean_told Antipodal = reply.Refused 6 (means.number_of Antipodal)
+mean_told Empty = reply.Refused kind.Mean (means.number_of Empty)
+mean_told Antipodal = reply.Refused kind.Mean (means.number_of Antipodal)
 
 -- "07 identity"
 unfoldable pub pick_told : Result ℕ Refusal → Reply
 pick_told (Ok i) = reply.Pick (choice_identity (Ok i))
-pick_told (Err q) = reply.Refused 7 (choice_number (Err q))
+pick_told (Err q) = reply.Refused kind.Pick (choice_number (Err q))
 
 -- ---- the reply of a session
 
@@ -53,13 +55,13 @@ if_started None f = reply.NotAFrame
 if_started (Some b) f = f b
 
 -- the reply to a frame
-unfoldable pub reply_of : Option Plain → Frame → Reply
-reply_of o (frame.Fresh r) = told 0 (begins r)
-reply_of o (frame.Told c) = if_started o (λ b. told (kind_of c) (answer b c))
-reply_of o frame.Mean = if_started o (λ b. mean_told (mean b))
-reply_of o frame.Pick = if_started o (λ b. pick_told (pick b))
-reply_of o frame.Total = if_started o (λ b. reply.Total b.total)
-reply_of o frame.NotAFrame = reply.NotAFrame
+unfoldable pub reply_of : Option Plain → Option Frame → Reply
+reply_of o (Some (frame.Fresh r)) = told kind.Fresh (begins r)
+reply_of o (Some (frame.Told c)) = if_started o (λ b. told (kind_of c) (answer b c))
+reply_of o (Some frame.Mean) = if_started o (λ b. mean_told (mean b))
+reply_of o (Some frame.Pick) = if_started o (λ b. pick_told (pick b))
+reply_of o (Some frame.Total) = if_started o (λ b. reply.Total b.total)
+reply_of o None = reply.NotAFrame
 
 -- ---- the session after a frame
 
@@ -72,21 +74,21 @@ unfoldable pub after_call : Option Plain → Call → Option Plain
 after_call None c = None
 after_call (Some b) c = Some (after b c)
 
-unfoldable pub next : Option Plain → Frame → Option Plain
-next o (frame.Fresh r) = begun (begins r) (fresh r) o
-next o (frame.Told c) = after_call o c
-next o frame.Mean = o
-next o frame.Pick = o
-next o frame.Total = o
-next o frame.NotAFrame = o
+unfoldable pub next : Option Plain → Option Frame → Option Plain
+next o (Some (frame.Fresh r)) = begun (begins r) (fresh r) o
+next o (Some (frame.Told c)) = after_call o c
+next o (Some frame.Mean) = o
+next o (Some frame.Pick) = o
+next o (Some frame.Total) = o
+next o None = o
 
 -- ---- the session of the code
 
 -- the plain board that a session stands for
 unfoldable pub plain_of : Session → Option Plain
-plain_of s = cond s.started (Some (plain s.board)) None
+plain_of s = option_map plain s.board
 
 -- what a frame makes of a session
-pub record Stepping (s : Session) (f : Frame) (r : Stepped) : Type 0 where
+pub record Stepping (s : Session) (f : Option Frame) (r : Stepped) : Type 0 where
   pub reply_is : r.reply ≡ reply_of (plain_of s) f
   pub session_is : plain_of r.session ≡ next (plain_of s) f

@@ -7,6 +7,7 @@ use board::glance::{Hint, Setting, glance};
 use plain::call::Call;
 use plain::targets::Target;
 use wire::frame::Frame;
+use wire::kind::Kind;
 use wire::reply::Reply;
 
 // What a quick look tells of a frame.
@@ -15,50 +16,48 @@ pub enum Quick {
     // The reply, and the session stays as it was.
     Stays(Reply),
     // The call of this kind is done, and this target takes the place of entry p.
-    Puts(u8, usize, Target),
+    Puts(Kind, usize, Target),
     // The call of this kind is done, every line is taken away, and this is the board's setting.
-    Sweeps(u8, Setting),
-    // A quick look tells nothing of the frame: the entries have to be looked at.
-    Unclear,
+    Sweeps(Kind, Setting),
 }
 
-// What a frame makes of every session of this setting whose targets have these identities.
-pub fn look(started: bool, setting: Setting, ids: &[u16], frame: Frame) -> Quick
-    ensures value { result ≡ spec.look started setting ids.now frame }
+// What a line makes of every session of this setting whose targets have these identities, where the entries need not be looked at.
+pub fn look(setting: Option<Setting>, ids: &[u16], frame: Option<Frame>) -> Option<Quick>
+    ensures value { result ≡ spec.look setting ids.now frame }
     ensures unchanged { ids.exit.now ≡ ids.entry.now }
 {
     match frame {
-        Frame::Fresh(_) => Quick::Unclear,
-        Frame::Told(call) => at_call(started, setting, ids, call),
-        Frame::Mean => Quick::Unclear,
-        Frame::Pick => Quick::Unclear,
-        Frame::Total => Quick::Stays(total_reply(started, setting)),
-        Frame::NotAFrame => Quick::Stays(Reply::NotAFrame),
+        Some(Frame::Fresh(_)) => None,
+        Some(Frame::Told(call)) => at_call(setting, ids, call),
+        Some(Frame::Mean) => None,
+        Some(Frame::Pick) => None,
+        Some(Frame::Total) => Some(Quick::Stays(total_reply(setting))),
+        None => Some(Quick::Stays(Reply::NotAFrame)),
     }
 }
 
 // The reply to a frame that asks for the total, ff01 where no board has been started.
-fn total_reply(started: bool, setting: Setting) -> Reply
-    ensures { result ≡ spec.total_reply started setting }
+fn total_reply(setting: Option<Setting>) -> Reply
+    ensures { result ≡ spec.total_reply setting }
 {
-    if started {
-        Reply::Total(setting.total)
-    } else {
-        Reply::NotAFrame
+    match setting {
+        Some(s) => Reply::Total(s.total),
+        None => Reply::NotAFrame,
     }
 }
 
 // What a call makes of every session of this setting whose targets have these identities.
-fn at_call(started: bool, setting: Setting, ids: &[u16], call: Call) -> Quick
-    ensures { result ≡ spec.at_call started setting ids.now call }
+fn at_call(setting: Option<Setting>, ids: &[u16], call: Call) -> Option<Quick>
+    ensures { result ≡ spec.at_call setting ids.now call }
 {
-    if !started {
-        return Quick::Stays(Reply::NotAFrame);
-    }
-    match glance(setting, ids, call) {
-        Hint::Stays(answer) => Quick::Stays(told(kind_of(call), answer)),
-        Hint::Puts(p, target) => Quick::Puts(kind_of(call), p, target),
-        Hint::Sweeps(after) => Quick::Sweeps(kind_of(call), after),
-        Hint::Unclear => Quick::Unclear,
+    let Some(s) = setting else {
+        return Some(Quick::Stays(Reply::NotAFrame));
+    };
+    let kind = kind_of(call);
+    match glance(s, ids, call) {
+        Hint::Stays(answer) => Some(Quick::Stays(told(kind, answer))),
+        Hint::Puts(p, target) => Some(Quick::Puts(kind, p, target)),
+        Hint::Sweeps(after) => Some(Quick::Sweeps(kind, after)),
+        Hint::Unclear => None,
     }
 }

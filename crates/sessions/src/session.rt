@@ -1,5 +1,5 @@
 // A session: a board or none yet, and what a frame makes of it.
-ghost use Rattle.std.specs.Prelude.{◌≡◌, None};
+ghost use Rattle.std.specs.Prelude.{◌≡◌, None, Some};
 ghost use Rattle.sessions.specs.Session as spec;
 
 use board::board::{fresh, hear};
@@ -8,13 +8,13 @@ use plain::call::{Answer, Call, Refusal};
 use plain::state::Board;
 use targets::asking::{mean, pick, total};
 use wire::frame::Frame;
+use wire::kind::Kind;
 use wire::reply::Reply;
 
-// Whether a board has been started, and that board.
+// A board, where one has been started.
 #[derive(Clone, Copy)]
 pub struct Session {
-    pub started: bool,
-    pub board: Board,
+    pub board: Option<Board>,
 }
 
 // A session beside what it answered.
@@ -28,29 +28,24 @@ pub struct Stepped {
 pub fn begin() -> Session
     ensures { spec.plain_of result ≡ None }
 {
-    let made = fresh(1.0);
-    let board = made.board;
-    Session {
-        started: false,
-        board,
-    }
+    Session { board: None }
 }
 
 // The kind of a call.
-pub fn kind_of(call: Call) -> u8
+pub fn kind_of(call: Call) -> Kind
     ensures { result ≡ spec.kind_of call }
 {
     match call {
-        Call::Report(_, _) => 1,
-        Call::Withdraw(_) => 2,
-        Call::OwnShip(_) => 3,
-        Call::Track(_, _) => 4,
-        Call::Solve(_) => 5,
+        Call::Report(_, _) => Kind::Report,
+        Call::Withdraw(_) => Kind::Withdraw,
+        Call::OwnShip(_) => Kind::OwnShip,
+        Call::Track(_, _) => Kind::Track,
+        Call::Solve(_) => Kind::Solve,
     }
 }
 
 // The reply to a call of this kind, from the board's answer.
-pub fn told(kind: u8, answer: Answer) -> Reply
+pub fn told(kind: Kind, answer: Answer) -> Reply
     ensures { result ≡ spec.told kind answer }
 {
     match answer {
@@ -62,15 +57,13 @@ pub fn told(kind: u8, answer: Answer) -> Reply
 
 // The session and the reply after a frame that starts a board: a fresh one if the radius is accepted, else what was there.
 fn start(s: Session, radius: f64) -> Stepped
-    ensures { spec.Stepping s (Frame.Fresh radius) result }
+    ensures { spec.Stepping s (Some (Frame.Fresh radius)) result }
 {
     let made = fresh(radius);
-    let board = made.board;
     let answer = made.answer;
-    let reply = told(0, answer);
+    let reply = told(Kind::Fresh, answer);
     let session = Session {
-        started: true,
-        board,
+        board: Some(made.board),
     };
     match answer {
         Ok(_) => Stepped { session, reply },
@@ -80,25 +73,23 @@ fn start(s: Session, radius: f64) -> Stepped
 
 // The session and the reply after a call of the board, ff01 where none has been started.
 fn tell(s: Session, call: Call) -> Stepped
-    ensures { spec.Stepping s (Frame.Told call) result }
+    ensures { spec.Stepping s (Some (Frame.Told call)) result }
 {
-    let started = s.started;
-    if !started {
-        return Stepped {
+    match s.board {
+        Some(board) => {
+            let heard = hear(board, call);
+            Stepped {
+                session: Session {
+                    board: Some(heard.board),
+                },
+                reply: told(kind_of(call), heard.answer),
+            }
+        }
+        None => Stepped {
             session: s,
             reply: Reply::NotAFrame,
-        };
+        },
     }
-    let old = s.board;
-    let heard = hear(old, call);
-    let board = heard.board;
-    let answer = heard.answer;
-    let reply = told(kind_of(call), answer);
-    let session = Session {
-        started: true,
-        board,
-    };
-    Stepped { session, reply }
 }
 
 // The reply to a mean.
@@ -107,8 +98,8 @@ fn mean_told(m: Mean) -> Reply
 {
     match m {
         Mean::Position(p) => Reply::Mean(p.as_vec3()),
-        Mean::Empty => Reply::Refused(6, m.number()),
-        Mean::Antipodal => Reply::Refused(6, m.number()),
+        Mean::Empty => Reply::Refused(Kind::Mean, m.number()),
+        Mean::Antipodal => Reply::Refused(Kind::Mean, m.number()),
     }
 }
 
@@ -118,66 +109,60 @@ fn pick_told(choice: Result<u16, Refusal>) -> Reply
 {
     match choice {
         Ok(identity) => Reply::Pick(identity),
-        Err(refusal) => Reply::Refused(7, refusal.number()),
+        Err(refusal) => Reply::Refused(Kind::Pick, refusal.number()),
     }
 }
 
 // The reply to a frame that asks for the mean position, ff01 where no board has been started.
 fn ask_mean(s: Session) -> Reply
-    ensures { result ≡ spec.reply_of (spec.plain_of s) Frame.Mean }
+    ensures { result ≡ spec.reply_of (spec.plain_of s) (Some Frame.Mean) }
 {
-    let started = s.started;
-    if !started {
-        return Reply::NotAFrame;
+    match s.board {
+        Some(board) => mean_told(mean(board)),
+        None => Reply::NotAFrame,
     }
-    let board = s.board;
-    mean_told(mean(board))
 }
 
 // The reply to a frame that asks for a pick, ff01 where no board has been started.
 fn ask_pick(s: Session) -> Reply
-    ensures { result ≡ spec.reply_of (spec.plain_of s) Frame.Pick }
+    ensures { result ≡ spec.reply_of (spec.plain_of s) (Some Frame.Pick) }
 {
-    let started = s.started;
-    if !started {
-        return Reply::NotAFrame;
+    match s.board {
+        Some(board) => pick_told(pick(board)),
+        None => Reply::NotAFrame,
     }
-    let board = s.board;
-    pick_told(pick(board))
 }
 
 // The reply to a frame that asks for the total of steps, ff01 where no board has been started.
 fn ask_total(s: Session) -> Reply
-    ensures { result ≡ spec.reply_of (spec.plain_of s) Frame.Total }
+    ensures { result ≡ spec.reply_of (spec.plain_of s) (Some Frame.Total) }
 {
-    let started = s.started;
-    if !started {
-        return Reply::NotAFrame;
+    match s.board {
+        Some(board) => Reply::Total(total(board)),
+        None => Reply::NotAFrame,
     }
-    let board = s.board;
-    Reply::Total(total(board))
 }
 
-// What one frame makes of a session, and its reply.
-pub fn step(s: Session, frame: Frame) -> Stepped
+// What a line makes of a session, and its reply: the frame that it is, if it is one.
+pub fn step(s: Session, frame: Option<Frame>) -> Stepped
     ensures { spec.Stepping s frame result }
 {
     match frame {
-        Frame::Fresh(radius) => start(s, radius),
-        Frame::Told(call) => tell(s, call),
-        Frame::Mean => Stepped {
+        Some(Frame::Fresh(radius)) => start(s, radius),
+        Some(Frame::Told(call)) => tell(s, call),
+        Some(Frame::Mean) => Stepped {
             session: s,
             reply: ask_mean(s),
         },
-        Frame::Pick => Stepped {
+        Some(Frame::Pick) => Stepped {
             session: s,
             reply: ask_pick(s),
         },
-        Frame::Total => Stepped {
+        Some(Frame::Total) => Stepped {
             session: s,
             reply: ask_total(s),
         },
-        Frame::NotAFrame => Stepped {
+        None => Stepped {
             session: s,
             reply: Reply::NotAFrame,
         },

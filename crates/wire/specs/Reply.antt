@@ -5,9 +5,10 @@ use Rattle.std.specs.Float.Ieee.{to_bits}
 use Rattle.plain.specs.declared.line.Line.{Line}
 use Rattle.hex_digits.specs.Hex.{digits}
 use Rattle.vectors.specs.declared.vec3.Vec3.{Vec3}
-use Rattle.walks.specs.Outcome.{number_of, nanoseconds_of, count_of}
+use Rattle.walks.specs.Outcome as outcome
 use Rattle.arcs.specs.Side.{side_number}
 use Rattle.walks.specs.declared.Outcome.{Outcome}
+use Rattle.wire.specs.Kind.{number_of}
 use Rattle.wire.specs.declared.reply.Reply.{Reply}
 use Rattle.wire.specs.declared.reply.Reply.TheVariants.{Done, Refused, Solved, Mean, Pick, Total, NotAFrame}
 
@@ -21,7 +22,7 @@ float_digits x = digits 16 (to_bits binary64 x)
 
 -- "number, 16 digits nanoseconds, 0 when refused, 2 digits count": 20 digits
 unfoldable pub outcome_digits : Outcome → List ℕ
-outcome_digits o = digits 2 (number_of o) ++ digits 16 (nanoseconds_of o) ++ digits 2 (count_of o)
+outcome_digits o = digits 2 (outcome.number_of o) ++ digits 16 (outcome.nanoseconds_of o) ++ digits 2 (outcome.count_of o)
 
 -- "the line (distance, bearing, side, offset, thrice number, nanoseconds, count)": 110 digits
 unfoldable pub line_digits : Line → List ℕ
@@ -35,8 +36,8 @@ position_digits p = float_digits p.x ++ float_digits p.y ++ float_digits p.z
 
 -- "05 the line, 06 three floats, 07 identity, 08 eight digits. Refused: kind and number alone; number 1, from either cause: ff01"
 unfoldable pub reply_digits : Reply → List ℕ
-reply_digits (Done kind) = two kind 0
-reply_digits (Refused kind number) = two kind number
+reply_digits (Done kind) = two (number_of kind) 0
+reply_digits (Refused kind number) = two (number_of kind) number
 reply_digits (Solved l) = two 5 0 ++ line_digits l
 reply_digits (Mean p) = two 6 0 ++ position_digits p
 reply_digits (Pick i) = two 7 0 ++ digits 4 i

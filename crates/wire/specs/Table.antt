@@ -6,6 +6,7 @@ use Rattle.plain.specs.declared.call.Call.TheVariants.{Withdraw}
 use Rattle.unhex.specs.Digits.{all_digits, hex_at}
 use Rattle.hex_digits.specs.Hex.{digits}
 use Rattle.wire.specs.declared.frame.Frame.TheVariants.{Fresh, Told, Mean}
+use Rattle.wire.specs.declared.kind.Kind.TheVariants.{Pick}
 use Rattle.wire.specs.declared.reply.Reply.TheVariants as reply
 use Rattle.wire.specs.Frame.{said, of_kind, frame_of}
 use Rattle.wire.specs.Reply.{float_digits, reply_digits}
@@ -47,7 +48,7 @@ unfolding frame_of of_kind said all_digits hex_at
 carriage = refl
 
 -- 0713: number 19
-refused : reply_digits (reply.Refused 7 19) ≡ 48 ∷ 55 ∷ 49 ∷ 51 ∷ []
+refused : reply_digits (reply.Refused Pick 19) ≡ 48 ∷ 55 ∷ 49 ∷ 51 ∷ []
 unfolding reply_digits digits
 refused = refl
 

@@ -1,29 +1,31 @@
 -- A frame, kind by kind.
 use mathlib.Core.Path.{ap, ◌∙◌}
+use Rattle.std.specs.Prelude.{Some}
 use Rattle.sessions.specs.declared.quick.Quick.TheVariants.{Stays}
 use Rattle.sessions.specs.Quick.{look}
+use Rattle.wire.specs.declared.reply.Reply.{Reply}
 use Rattle.sessions.proofs.quick.look.Goals as goal
 
-pub returns-in-Fresh-clause-value : goal.returns-in-Fresh-clause-value
+pub returns-in-Some-Fresh-clause-value : goal.returns-in-Some-Fresh-clause-value
 unfolding look
-returns-in-Fresh-clause-value c = rw c.in-Fresh.is
+returns-in-Some-Fresh-clause-value c = rw (c.in-Some-Fresh.is, c.in-Some-Fresh.field-0-is)
 
-pub returns-in-Told-clause-value : goal.returns-in-Told-clause-value
+pub returns-in-Some-Told-clause-value : goal.returns-in-Some-Told-clause-value
 unfolding look
-returns-in-Told-clause-value c = rw c.in-Told.is c.at_call.ensures
+returns-in-Some-Told-clause-value c = rw (c.in-Some-Told.is, c.in-Some-Told.field-0-is) c.at_call.ensures
 
-pub returns-in-Mean-clause-value : goal.returns-in-Mean-clause-value
+pub returns-in-Some-Mean-clause-value : goal.returns-in-Some-Mean-clause-value
 unfolding look
-returns-in-Mean-clause-value c = rw c.in-Mean.is
+returns-in-Some-Mean-clause-value c = rw (c.in-Some-Mean.is, c.in-Some-Mean.field-0-is)
 
-pub returns-in-Pick-clause-value : goal.returns-in-Pick-clause-value
+pub returns-in-Some-Pick-clause-value : goal.returns-in-Some-Pick-clause-value
 unfolding look
-returns-in-Pick-clause-value c = rw c.in-Pick.is
+returns-in-Some-Pick-clause-value c = rw (c.in-Some-Pick.is, c.in-Some-Pick.field-0-is)
 
-pub returns-in-Total-clause-value : goal.returns-in-Total-clause-value
+pub returns-in-Some-Total-clause-value : goal.returns-in-Some-Total-clause-value
 unfolding look
-returns-in-Total-clause-value c = ap Stays c.total_reply.ensures ∙ rw c.in-Total.is
+returns-in-Some-Total-clause-value c = ap (λ (y : Reply). Some (Stays y)) c.total_reply.ensures ∙ rw (c.in-Some-Total.is, c.in-Some-Total.field-0-is)
 
-pub returns-in-NotAFrame-clause-value : goal.returns-in-NotAFrame-clause-value
+pub returns-in-None-clause-value : goal.returns-in-None-clause-value
 unfolding look
-returns-in-NotAFrame-clause-value c = rw c.in-NotAFrame.is
+returns-in-None-clause-value c = rw c.in-None.is

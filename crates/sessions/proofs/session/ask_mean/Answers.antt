@@ -4,11 +4,10 @@ use Rattle.sessions.specs.Session.{reply_of, if_started, mean_told}
 use Rattle.sessions.proofs.Sessions.{opened, closed}
 use Rattle.sessions.proofs.session.ask_mean.Goals as goal
 
-pub returns-then-not-started : goal.returns-then-not-started
+pub returns-in-None : goal.returns-in-None
 unfolding reply_of if_started
-returns-then-not-started c = rw (closed c.args.s c.if-not-started.true)
+returns-in-None c = rw (closed c.args.s c.in-None.is)
 
-pub returns : goal.returns
+pub returns-in-Some : goal.returns-in-Some
 unfolding reply_of if_started
-returns c =
-    rw (opened c.args.s c.if-not-started.false) (c.mean_told.ensures ∙ ap mean_told c.mean.ensures)
+returns-in-Some c = rw (opened c.args.s c.in-Some.is) (c.mean_told.ensures ∙ ap mean_told c.mean.ensures)

@@ -1,21 +1,22 @@
 -- Each frame by its kind.
-use mathlib.Core.Path.{refl}
+use mathlib.Core.Path.{refl, ap, ◌∙◌}
+use Rattle.std.specs.Prelude.{Some}
 use Rattle.wire.specs.declared.frame.Frame.TheVariants.{Mean, Pick, Total}
 use Rattle.sessions.specs.Session.{next}
 use Rattle.sessions.proofs.Sessions.{asked, no-frame}
 use Rattle.sessions.proofs.session.step.Goals as goal
 
-pub returns-in-Mean : goal.returns-in-Mean
+pub returns-in-Some-Mean : goal.returns-in-Some-Mean
 unfolding next
-returns-in-Mean c = asked _ Mean c.in-Mean.is c.ask_mean.ensures refl
+returns-in-Some-Mean c = asked _ (Some Mean) (c.in-Some-Mean.is ∙ ap Some c.in-Some-Mean.field-0-is) c.ask_mean.ensures refl
 
-pub returns-in-Pick : goal.returns-in-Pick
+pub returns-in-Some-Pick : goal.returns-in-Some-Pick
 unfolding next
-returns-in-Pick c = asked _ Pick c.in-Pick.is c.ask_pick.ensures refl
+returns-in-Some-Pick c = asked _ (Some Pick) (c.in-Some-Pick.is ∙ ap Some c.in-Some-Pick.field-0-is) c.ask_pick.ensures refl
 
-pub returns-in-Total : goal.returns-in-Total
+pub returns-in-Some-Total : goal.returns-in-Some-Total
 unfolding next
-returns-in-Total c = asked _ Total c.in-Total.is c.ask_total.ensures refl
+returns-in-Some-Total c = asked _ (Some Total) (c.in-Some-Total.is ∙ ap Some c.in-Some-Total.field-0-is) c.ask_total.ensures refl
 
-pub returns-in-NotAFrame : goal.returns-in-NotAFrame
-returns-in-NotAFrame c = no-frame _ c.in-NotAFrame.is
+pub returns-in-None : goal.returns-in-None
+returns-in-None c = no-frame _ c.in-None.is

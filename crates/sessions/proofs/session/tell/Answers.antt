@@ -2,10 +2,10 @@
 use Rattle.sessions.proofs.Sessions.{not-heard, heard}
 use Rattle.sessions.proofs.session.tell.Goals as goal
 
-pub returns-then-not-started : goal.returns-then-not-started
-returns-then-not-started c = not-heard _ _ c.if-not-started.true
+pub returns-in-None : goal.returns-in-None
+returns-in-None c = not-heard _ _ c.in-None.is
 
-pub returns : goal.returns
-returns c =
+pub returns-in-Some : goal.returns-in-Some
+returns-in-Some c =
     let h = c.hear-heard.ensures in
-    heard _ _ c.if-not-started.false h.answer_is h.board_is c.kind_of.ensures c.told-reply.ensures
+    heard _ _ c.in-Some.is h.answer_is h.board_is c.kind_of.ensures c.told.ensures

@@ -2,13 +2,13 @@
 use Rattle.sessions.specs.Session.{told}
 use Rattle.sessions.proofs.session.told.Goals as goal
 
-pub returns-in-None : goal.returns-in-None
+pub returns-in-Ok-None : goal.returns-in-Ok-None
 unfolding told
-returns-in-None c = rw c.in-None.is
+returns-in-Ok-None c = rw (c.in-Ok-None.is, c.in-Ok-None.field-0-is)
 
-pub returns-in-Some : goal.returns-in-Some
+pub returns-in-Ok-Some : goal.returns-in-Ok-Some
 unfolding told
-returns-in-Some c = rw c.in-Some.is
+returns-in-Ok-Some c = rw (c.in-Ok-Some.is, c.in-Ok-Some.field-0-is)
 
 pub returns-in-Err : goal.returns-in-Err
 unfolding told
