@@ -1,5 +1,5 @@
 -- A search of the entries, and the change of the array that each call makes: it stands for the plain board's targets after the call.
-use Rattle.std.specs.Prelude.{Option, Some, None, Result, Ok, Err}
+use Rattle.std.specs.Prelude.{Option, Some, None, Result, Ok, Err, is_ok}
 use Prim.Native.Nat.{ℕ, suc, ◌+◌, ◌≤◌, ◌<◌}
 use native.Mathlib.Numerals.{add-one}
 use mathlib.Core.Bool.{true}
@@ -22,12 +22,14 @@ use Rattle.plain.specs.declared.call.Call.TheVariants.{Report, Withdraw, OwnShip
 use Rattle.plain.specs.Targets.{most_targets, find, place, bared, bare_target, at_most, listed}
 use Rattle.targets.specs.Slots.{spot_in, spot_from}
 use Rattle.plain.specs.Call.{Answer, vehicle, named}
-use Rattle.plain.specs.Board.{answer, after, accepted, targets_after, put, swept, leaves, lined, with_line, own_after, track_after, raised}
+use Rattle.plain.specs.Questions.{ask, identity_asked}
+use Rattle.plain.specs.Board.{Plain, answer, after, accepted, targets_after, put, swept, leaves, lined, with_line, own_after, track_after, raised}
 use Rattle.plain.specs.Code.{plain, cut}
 use Rattle.plain.specs.History.{accepts}
-use Rattle.board.specs.Change.{name_of, Seeks, RightAnswer, entries_after, count_after, changed, Within, placing, RightChange}
+use Rattle.board.specs.Change.{name_of, Seeks, answer_by, entries_after, count_after, changed, Within, placing, RightChange}
 use Rattle.targets.proofs.Arrays.{absent, held_below}
 use Rattle.targets.proofs.Slots.{stored_is, inserted-is, removed-is, removed-not, take-bared, counted_is, removed-fits, bared-fits, absent-fits}
+use Rattle.questions.proofs.Chains.{ask-fix, ask-ends}
 use Rattle.plain.proofs.Listed.{at-most-le, at-most-same}
 use Rattle.plain.proofs.Played.{heard-accepted}
 
@@ -124,10 +126,23 @@ unfolding listed
 sought-is ts n x y r k e f =
     (k.spot_is ∙ rw (e, f), k.found_is ∙ rw (e, f), e ∙ counted_is ts.entries ts.count k.length_is)
 
-pub answered-is : (b : Board) (c : Call) (a : Answer) (x : Option Held) (n : ℕ) → RightAnswer b.radius b.own b.track x n c a
+-- the questions put to the parts are those put to the plain board
+parts-answer : (p : Plain) (c : Call) → answer_by p.radius p.own p.track (find (name_of c) p.targets) (length p.targets) c ≡ answer p c
+unfolding answer
+parts-answer p (Report i f) = ap (ask (identity_asked i)) (ask-fix f _)
+parts-answer p (Withdraw i) = refl
+parts-answer p (OwnShip f) = ask-fix f (Ok None)
+parts-answer p (Track s e) = ask-ends s e (Ok None)
+parts-answer p (Solve i) = refl
+
+pub answered-is : (b : Board) (c : Call) (a : Answer) (x : Option Held) (n : ℕ) → a ≡ answer_by b.radius b.own b.track x n c
     → x ≡ find (name_of c) (listed b.targets) → n ≡ length (listed b.targets) → a ≡ answer (plain b) c
-unfolding RightAnswer plain
-answered-is b c a x n k e f = k (listed b.targets) b.total e f
+answered-is b c a x n k e f = k ∙ rw (e, f) (unfold plain in parts-answer (plain b) c)
+
+-- an answer is accepted where it is no error
+pub ok-accepted : (a : Answer) → accepts a ≡ is_ok a
+ok-accepted (Ok l) = refl
+ok-accepted (Err r) = refl
 
 -- one that is accepted
 

@@ -1,6 +1,6 @@
 -- What a call makes of the parts that the code holds of a board: the questions put to them, and the change of the array of targets.
 -- Definitions only.
-use Rattle.std.specs.Prelude.{ℕ, ◌+◌, ◌-◌, ◌<◌, List, ◌∷◌, ◌++◌, map, ◌≡◌, Float, length, take, drop, set, Option, Result, Ok, Err}
+use Rattle.std.specs.Prelude.{ℕ, ◌+◌, ◌-◌, ◌<◌, List, ◌∷◌, ◌++◌, map, ◌≡◌, Float, length, take, drop, set, Option, None, Result, Ok, Err}
 use Rattle.jord.specs.declared.vehicle.Vehicle.{Vehicle}
 use Rattle.plain.specs.declared.line.Ends.{Ends}
 use Rattle.plain.specs.declared.targets.Held.{Held}
@@ -14,7 +14,8 @@ use Rattle.plain.specs.declared.call.Call.TheVariants.{Report, Withdraw, OwnShip
 use Rattle.plain.specs.Call.{Answer}
 use Rattle.plain.specs.Targets.{most_targets, find, bare_target, at_most, listed}
 use Rattle.targets.specs.Slots.{spot_from}
-use Rattle.plain.specs.Board.{answer, targets_after}
+use Rattle.plain.specs.Questions.{ask, identity_asked, fix_asked, ends_asked, held_asked, room_asked, see, solved}
+use Rattle.plain.specs.Board.{targets_after}
 
 -- the identity that a call names, or 0
 abbrev pub name_of : Call → ℕ
@@ -30,11 +31,13 @@ pub record Seeks (es : List Target) (n x : ℕ) (r : Sought) : Type 0 where
   pub spot_is : r.spot ≡ spot_from 0 x (take n es)
   pub found_is : r.found ≡ find x (take n es)
 
--- a is the answer to call c of every board with these parts, n targets, and x held under the identity that the call names
-unfoldable pub RightAnswer : Float → Option Vehicle → Option Ends → Option Held → ℕ → Call → Answer → Type 0
-RightAnswer r o t x n c a =
-    (l : List Target) (k : ℕ) → x ≡ find (name_of c) l → n ≡ length l
-    → a ≡ answer (record { radius = r; own = o; track = t; targets = l; total = k }) c
+-- the answer to a call of a board with these parts, where n targets stand and x is held under the identity that the call names
+abbrev pub answer_by : Float → Option Vehicle → Option Ends → Option Held → ℕ → Call → Answer
+answer_by r o t x n (Report i f) = ask (identity_asked i) (ask (fix_asked f) (ask (room_asked x n) (Ok None)))
+answer_by r o t x n (Withdraw i) = ask (identity_asked i) (ask (held_asked x) (Ok None))
+answer_by r o t x n (OwnShip f) = ask (fix_asked f) (Ok None)
+answer_by r o t x n (Track s e) = ask (ends_asked s e) (Ok None)
+answer_by r o t x n (Solve i) = ask (identity_asked i) (solved r (see x o t))
 
 -- ---- a change of the array
 

@@ -1,9 +1,8 @@
 // The calls of a board. The board goes in by value and comes back beside the answer.
-ghost use Rattle.std.specs.Prelude.{◌≡◌, not, ◌≤◌};
+ghost use Rattle.std.specs.Prelude.{◌≡◌, ◌≤◌};
 ghost use Rattle.plain.specs.Board as spec;
 ghost use Rattle.board.specs.Change as code;
 ghost use Rattle.plain.specs.Code.{plain, Answers, Demanded};
-ghost use Rattle.plain.specs.History.{accepts};
 ghost use Rattle.plain.specs.Targets.{most_targets};
 
 use jord::vehicle::Vehicle;
@@ -12,10 +11,8 @@ use plain::line::Ends;
 use plain::state::{Answered, Board};
 use plain::targets::{Held, MOST_TARGETS, Target, Targets};
 use questions::call::{ends, vehicle};
-use questions::line::raise;
-use questions::{
-    ask, ask_ends, ask_fix, held_asked, identity_asked, radius_asked, room_asked, see, solved,
-};
+use questions::line::{raise, solve_line};
+use questions::{ends_asked, fix_asked, held_asked, identity_asked, radius_asked, room_asked, see};
 use targets::{Change, Sought, bared, closed, empty, inserted, least};
 
 // A fresh board: only the radius. Refused where the radius is not finite and above zero.
@@ -31,7 +28,7 @@ pub fn fresh(radius: f64) -> Answered
     };
     Answered {
         board,
-        answer: ask(radius_asked(radius), Ok(None)),
+        answer: radius_asked(radius).and(Ok(None)),
     }
 }
 
@@ -84,7 +81,7 @@ pub fn hear(board: Board, call: Call) -> Answered
     let spot = sought.spot;
     let found = sought.found;
     let answer = answer_of(board.radius, own, track, found, n, call);
-    if refuses(answer) {
+    if answer.is_err() {
         return Answered {
             board: Board {
                 radius: board.radius,
@@ -130,37 +127,43 @@ pub fn hear(board: Board, call: Call) -> Answered
     }
 }
 
-// Whether the answer is a refusal.
-pub fn refuses(answer: Answer) -> bool
-    ensures { result ≡ not (accepts answer) }
-{
-    match answer {
-        Ok(None) => false,
-        Ok(Some(_)) => false,
-        Err(_) => true,
-    }
-}
-
 // The questions of a call in their order, put to the parts of a board: n targets stand, and this is held under the identity that is named.
 // The first no refuses it.
-fn answer_of(radius: f64, own: Option<Vehicle>, track: Option<Ends>, found: Option<Held>, n: usize, call: Call) -> Answer
-    ensures { code.RightAnswer radius own track found n call result }
+fn answer_of(
+    radius: f64,
+    own: Option<Vehicle>,
+    track: Option<Ends>,
+    found: Option<Held>,
+    n: usize,
+    call: Call,
+) -> Answer
+    ensures { result ≡ code.answer_by radius own track found n call }
 {
     match call {
-        Call::Report(identity, fix) => ask(
-            identity_asked(identity),
-            ask_fix(fix, ask(room_asked(found, n), Ok(None))),
-        ),
-        Call::Withdraw(identity) => ask(
-            identity_asked(identity),
-            ask(held_asked(found), Ok(None)),
-        ),
-        Call::OwnShip(fix) => ask_fix(fix, Ok(None)),
-        Call::Track(start, end) => ask_ends(start, end, Ok(None)),
-        Call::Solve(identity) => ask(
-            identity_asked(identity),
-            solved(radius, see(found, own, track)),
-        ),
+        Call::Report(identity, fix) => {
+            identity_asked(identity)?;
+            fix_asked(fix)?;
+            room_asked(found, n)?;
+            Ok(None)
+        }
+        Call::Withdraw(identity) => {
+            identity_asked(identity)?;
+            held_asked(found)?;
+            Ok(None)
+        }
+        Call::OwnShip(fix) => {
+            fix_asked(fix)?;
+            Ok(None)
+        }
+        Call::Track(start, end) => {
+            ends_asked(start, end)?;
+            Ok(None)
+        }
+        Call::Solve(identity) => {
+            identity_asked(identity)?;
+            let scene = see(found, own, track)?;
+            Ok(Some(solve_line(radius, scene)))
+        }
     }
 }
 

@@ -1,6 +1,6 @@
 // Turns of one call, as a caller would write them. The board of a turn is the one that the turn before left.
 use crate::inputs::{HELD, coordinates, fix, identity};
-use board::board::{fresh, own_ship, refuses, report, solve, track, withdraw};
+use board::board::{fresh, own_ship, report, solve, track, withdraw};
 use jord::positions::NVector;
 use means::Mean;
 use plain::call::{Answer, Refusal};
@@ -125,6 +125,6 @@ fn renewed(start: Board, turn: u64) -> Answered {
     let back = b.answer;
     Answered {
         board,
-        answer: if refuses(gone) { gone } else { back },
+        answer: gone.and(back),
     }
 }

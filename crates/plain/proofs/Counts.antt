@@ -19,7 +19,7 @@ use Rattle.plain.specs.Call.{Answer}
 use Rattle.plain.specs.Line.{solve_line}
 use Rattle.plain.specs.Targets.{find}
 use Rattle.plain.specs.Questions.{Said, ask, identity_asked, fix_finite_asked, fix_unit_asked, speed_asked, ask_fix, ends_finite_asked, ends_unit_asked}
-use Rattle.plain.specs.Questions.{Said, circle_asked, ask_ends, held_asked, room_asked, see, solved}
+use Rattle.plain.specs.Questions.{circle_asked, ask_ends, held_asked, room_asked, see, solved}
 use Rattle.plain.specs.Board.{Plain, answer, after, answers}
 use Rattle.plain.specs.History.{heard, accepts, line_given, new_line, hear_line, last_line}
 use Rattle.plain.specs.Demand3.{CountsFit, AnswerFits, AnswersFit, LineFits}

@@ -36,8 +36,7 @@ reply b (Solve i) x = ask (identity_asked i) (solved b.radius (see x b.own b.tra
 
 -- what it leaves there
 cell : Call → Answer → Option Held → Option Held
-cell c (Ok None) x = leaves c (Ok None) x
-cell c (Ok (Some l)) x = leaves c (Ok (Some l)) x
+cell c (Ok l) x = leaves c (Ok l) x
 cell c (Err r) x = x
 
 raised-comm : (x y : Answer) (n : ℕ) → raised x (raised y n) ≡ raised y (raised x n)
@@ -58,8 +57,7 @@ reply-onto b i x n (Solve j) y = refl
 outcome-onto : (b : Plain) (c : Call) (i : ℕ) → named c ≡ Some i → RisingFrom 0 b.targets → (a : Answer)
     → outcome b c a ≡ onto b i (cell c a (find i b.targets)) (raised a b.total)
 unfolding outcome cell
-outcome-onto b c i e r (Ok None) = accepted-onto b c i e (Ok None)
-outcome-onto b c i e r (Ok (Some l)) = accepted-onto b c i e (Ok (Some l))
+outcome-onto b c i e r (Ok l) = accepted-onto b c i e (Ok l)
 outcome-onto b c i e r (Err n) = unfold onto in rw (place-find 0 i b.targets (omega arith) r)
 
 -- ---- boards whose targets are all members of ids

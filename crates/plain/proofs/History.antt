@@ -144,8 +144,7 @@ module _ (b : Plain) (i : ℕ) (fit : Fit b) where
 
   outcome-report : (c : Call) (a : Answer) → report_of (find i (outcome b c a).targets) ≡ hear_report i c a (report_of (find i b.targets))
   unfolding outcome hear_report
-  outcome-report c (Ok None) = accepted-report c (Ok None)
-  outcome-report c (Ok (Some l)) = accepted-report c (Ok (Some l))
+  outcome-report c (Ok l) = accepted-report c (Ok l)
   outcome-report c (Err r) = refl
 
   accepted-line : (c : Call) (a : Answer) → answer b c ≡ a
@@ -164,8 +163,7 @@ module _ (b : Plain) (i : ℕ) (fit : Fit b) where
 
   outcome-line : (c : Call) (a : Answer) → answer b c ≡ a → line_of (find i (outcome b c a).targets) ≡ hear_line i c a (line_of (find i b.targets))
   unfolding outcome hear_line
-  outcome-line c (Ok None) e = accepted-line c (Ok None) e
-  outcome-line c (Ok (Some l)) e = accepted-line c (Ok (Some l)) e
+  outcome-line c (Ok l) e = accepted-line c (Ok l) e
   outcome-line c (Err r) e = refl
 
 -- ---- after the list
@@ -190,8 +188,7 @@ run-line i b (c ∷ cs) f =
 
 outcome-total : (b : Plain) (c : Call) (a : Answer) → (outcome b c a).total ≡ raised a b.total
 unfolding outcome accepted
-outcome-total b c (Ok None) = refl
-outcome-total b c (Ok (Some l)) = refl
+outcome-total b c (Ok l) = refl
 outcome-total b c (Err r) = refl
 
 raised-given : (a : Answer) (n : ℕ) → n < 2 ^ 32 → raised a n ≡ (n + given a) % 2 ^ 32

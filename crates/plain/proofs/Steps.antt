@@ -28,8 +28,7 @@ ask-elim P (Err r) a refuses puts = refuses r
 -- a call is refused and leaves the board, or is accepted
 pub outcome-elim : (P : Plain → Type 0) (b : Plain) (c : Call) (a : Answer) → P b → P (accepted b c a) → P (outcome b c a)
 unfolding outcome
-outcome-elim P b c (Ok None) p q = q
-outcome-elim P b c (Ok (Some l)) p q = q
+outcome-elim P b c (Ok l) p q = q
 outcome-elim P b c (Err r) p q = p
 
 pub refused-after : (b : Plain) (c : Call) (r : Refusal) → answer b c ≡ Err r → after b c ≡ b
@@ -38,14 +37,12 @@ refused-after b c r e = rw e
 
 pub not-accepted : (b : Plain) (c : Call) (a : Answer) → accepts a ≡ false → outcome b c a ≡ b
 unfolding outcome
-not-accepted b c (Ok None) e = let z : ◌≡◌ {A = ℕ} 0 1 = cc in absurd (omega arith)
-not-accepted b c (Ok (Some l)) e = let z : ◌≡◌ {A = ℕ} 0 1 = cc in absurd (omega arith)
+not-accepted b c (Ok l) e = let z : ◌≡◌ {A = ℕ} 0 1 = cc in absurd (omega arith)
 not-accepted b c (Err r) e = refl
 
 pub is-accepted : (b : Plain) (c : Call) (a : Answer) → accepts a ≡ true → outcome b c a ≡ accepted b c a
 unfolding outcome
-is-accepted b c (Ok None) e = refl
-is-accepted b c (Ok (Some l)) e = refl
+is-accepted b c (Ok l) e = refl
 is-accepted b c (Err r) e = let z : ◌≡◌ {A = ℕ} 0 1 = cc in absurd (omega arith)
 
 -- a call that names i moves the place of i and the total

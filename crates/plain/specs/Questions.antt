@@ -27,7 +27,7 @@ abbrev pub Said : Type 0
 Said = Result (Unit {0}) Refusal
 
 -- "the first no gives its number": the question's no, or what the questions after it come to
-abbrev pub ask : Said → Answer → Answer
+abbrev pub ask : {A : Type 0} → Said → Result A Refusal → Result A Refusal
 ask (Ok u) a = a
 ask (Err r) a = Err r
 
@@ -74,8 +74,12 @@ abbrev pub speed_asked : Fix → Said
 speed_asked f = unless (le zero f.speed) SpeedNegative
 
 -- the questions of a vehicle in their order, then those after it
-abbrev pub ask_fix : Fix → Answer → Answer
+abbrev pub ask_fix : {A : Type 0} → Fix → Result A Refusal → Result A Refusal
 ask_fix f a = ask (fix_finite_asked f) (ask (fix_unit_asked f) (ask (speed_asked f) a))
+
+-- those of a vehicle alone
+abbrev pub fix_asked : Fix → Said
+fix_asked f = ask_fix f (Ok tt)
 
 -- 4, of a track: the six coordinates
 abbrev pub ends_finite_asked : Coordinates → Coordinates → Said
@@ -90,8 +94,12 @@ abbrev pub circle_asked : Coordinates → Coordinates → Said
 circle_asked s e = unless (is_great_circle (position s) (position e)) NoGreatCircle
 
 -- the questions of a track in their order, then those after it
-abbrev pub ask_ends : Coordinates → Coordinates → Answer → Answer
+abbrev pub ask_ends : {A : Type 0} → Coordinates → Coordinates → Result A Refusal → Result A Refusal
 ask_ends s e a = ask (ends_finite_asked s e) (ask (ends_unit_asked s e) (ask (circle_asked s e) a))
+
+-- those of a track alone
+abbrev pub ends_asked : Coordinates → Coordinates → Said
+ends_asked s e = ask_ends s e (Ok tt)
 
 -- "Withdraw, solve: does the board hold this identity? 8"
 abbrev pub held_asked : Option Held → Said

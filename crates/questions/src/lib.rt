@@ -5,11 +5,10 @@ ghost use Rattle.std.specs.Prelude.{◌≡◌};
 ghost use Rattle.plain.specs.Questions as spec;
 
 use crate::call::position;
-use crate::line::solve_line;
 use jord::positions::NVector;
 use jord::vehicle::Vehicle;
 use patterns::magnitude;
-use plain::call::{Answer, Coordinates, Fix, Refusal};
+use plain::call::{Coordinates, Fix, Refusal};
 use plain::line::{Ends, Scene};
 use plain::targets::{Held, MOST_TARGETS};
 use spherical::sphere::Sphere;
@@ -19,16 +18,6 @@ pub mod line;
 
 // The magnitude that the squared length of a position may be off one: 2^-40.
 const SLACK: f64 = 9.094947017729282e-13;
-
-// The question's no, or what the questions after it come to.
-pub fn ask(said: Result<(), Refusal>, answer: Answer) -> Answer
-    ensures { result ≡ spec.ask said answer }
-{
-    match said {
-        Err(refusal) => Err(refusal),
-        Ok(()) => answer,
-    }
-}
 
 // Yes where it is so, else no.
 fn unless(so: bool, refusal: Refusal) -> Result<(), Refusal>
@@ -98,14 +87,13 @@ fn speed_asked(fix: Fix) -> Result<(), Refusal>
     unless(0.0 <= fix.speed, Refusal::SpeedNegative)
 }
 
-// The questions of a fix, then those after it.
-pub fn ask_fix(fix: Fix, answer: Answer) -> Answer
-    ensures { result ≡ spec.ask_fix fix answer }
+// The questions of a fix, in their order.
+pub fn fix_asked(fix: Fix) -> Result<(), Refusal>
+    ensures { result ≡ spec.fix_asked fix }
 {
-    ask(
-        fix_finite_asked(fix),
-        ask(fix_unit_asked(fix), ask(speed_asked(fix), answer)),
-    )
+    fix_finite_asked(fix)?;
+    fix_unit_asked(fix)?;
+    speed_asked(fix)
 }
 
 // Are all numbers of the two positions finite?
@@ -135,66 +123,36 @@ fn circle_asked(start: Coordinates, end: Coordinates) -> Result<(), Refusal>
     )
 }
 
-// The questions of a track, then those after it.
-pub fn ask_ends(start: Coordinates, end: Coordinates, answer: Answer) -> Answer
-    ensures { result ≡ spec.ask_ends start end answer }
+// The questions of a track, in their order.
+pub fn ends_asked(start: Coordinates, end: Coordinates) -> Result<(), Refusal>
+    ensures { result ≡ spec.ends_asked start end }
 {
-    ask(
-        ends_finite_asked(start, end),
-        ask(
-            ends_unit_asked(start, end),
-            ask(circle_asked(start, end), answer),
-        ),
-    )
+    ends_finite_asked(start, end)?;
+    ends_unit_asked(start, end)?;
+    circle_asked(start, end)
 }
 
 // Does the board hold this identity?
 pub fn held_asked(found: Option<Held>) -> Result<(), Refusal>
     ensures { result ≡ spec.held_asked found }
 {
-    match found {
-        None => Err(Refusal::NotHeld),
-        Some(_) => Ok(()),
-    }
+    unless(found.is_some(), Refusal::NotHeld)
 }
 
 // Is the identity held, or are fewer than 64 held?
 pub fn room_asked(found: Option<Held>, count: usize) -> Result<(), Refusal>
     ensures { result ≡ spec.room_asked found count }
 {
-    match found {
-        None => unless(count < MOST_TARGETS, Refusal::BoardFull),
-        Some(_) => Ok(()),
-    }
+    unless(found.is_some() || count < MOST_TARGETS, Refusal::BoardFull)
 }
 
 // Does the board hold this identity? Has an own ship been set? A track? What a solve then sees.
 pub fn see(found: Option<Held>, own: Option<Vehicle>, track: Option<Ends>) -> Result<Scene, Refusal>
     ensures { result ≡ spec.see found own track }
 {
-    let Some(held) = found else {
-        return Err(Refusal::NotHeld);
-    };
-    let Some(ship) = own else {
-        return Err(Refusal::NoOwnShip);
-    };
-    let Some(ends) = track else {
-        return Err(Refusal::NoTrack);
-    };
+    let held = found.ok_or(Refusal::NotHeld)?;
+    let own = own.ok_or(Refusal::NoOwnShip)?;
+    let track = track.ok_or(Refusal::NoTrack)?;
     let report = held.report;
-    Ok(Scene {
-        own: ship,
-        track: ends,
-        report,
-    })
-}
-
-// The line of what is seen, or what lacks.
-pub fn solved(radius: f64, seen: Result<Scene, Refusal>) -> Answer
-    ensures { result ≡ spec.solved radius seen }
-{
-    match seen {
-        Err(refusal) => Err(refusal),
-        Ok(scene) => Ok(Some(solve_line(radius, scene))),
-    }
+    Ok(Scene { own, track, report })
 }

@@ -13,4 +13,4 @@ unfolding plain fresh begins listed
 returns c =
     let b : Board = record { radius = c.args.radius; own = None; track = None; targets = c.empty.result; total = 0 } in
     let is : plain b ≡ fresh c.args.radius = rw c.empty.ensures in
-    (c.ask.ensures ∙ rw c.radius_asked.ensures, is, whole c.args.radius b is)
+    (c.and.ensures ∙ rw c.radius_asked.ensures, is, whole c.args.radius b is)
