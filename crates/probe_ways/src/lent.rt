@@ -3,7 +3,7 @@ ghost use Rattle.std.specs.Prelude.{◌≤◌};
 
 use crate::mean::put_mean;
 use jord::positions::NVector;
-use means::Mean;
+use means::NoMean;
 use means::lent::mean_position_of;
 use probe_fields::fields::nvector_at;
 
@@ -24,7 +24,7 @@ pub(crate) fn answer(args: &[u64], n: usize, page: &mut [u8], at: usize) -> usiz
 }
 
 // The mean of the first n positions, or of all where n is more.
-fn mean_of(ps: [NVector; POSITIONS], n: usize) -> Mean {
+fn mean_of(ps: [NVector; POSITIONS], n: usize) -> Result<NVector, NoMean> {
     if n > POSITIONS {
         return mean_of_first(ps, POSITIONS);
     }
@@ -32,7 +32,7 @@ fn mean_of(ps: [NVector; POSITIONS], n: usize) -> Mean {
 }
 
 // The mean of the first n positions, which are lent.
-fn mean_of_first(ps: [NVector; POSITIONS], n: usize) -> Mean
+fn mean_of_first(ps: [NVector; POSITIONS], n: usize) -> Result<NVector, NoMean>
     requires { n ≤ 6 }
 {
     let all: &[NVector] = &ps;

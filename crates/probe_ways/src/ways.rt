@@ -1,5 +1,5 @@
 // Functions 80 to 8c: projections, minor arcs, and the ways and angles on the sphere that no board needs.
-use crate::mean::put_mean;
+use crate::mean::{put_mean, put_position};
 use arcs::great_circle::GreatCircle;
 use arcs::minor_arc::MinorArc;
 use jord::angle::Angle;
@@ -10,7 +10,7 @@ use probe_fields::fields::{
     float_at, nvector_at, put_float, put_gap, put_short, put_vec3, vehicle_at, whole_at,
 };
 use probe_sphere::sphere::sphere_of;
-use spherical::interpolated::Interpolated;
+use spherical::interpolated::Outside;
 use spherical::sphere::Sphere;
 
 // How many arguments a function takes.
@@ -86,7 +86,7 @@ fn position(f: u64, args: &[u64]) -> NVector {
     }
 }
 
-fn interpolated(args: &[u64]) -> Interpolated {
+fn interpolated(args: &[u64]) -> Result<NVector, Outside> {
     Sphere::interpolated_position(nvector_at(args, 0), nvector_at(args, 3), float_at(args, 6))
 }
 
@@ -100,14 +100,10 @@ fn put_arc(page: &mut [u8], at: usize, ma: MinorArc) -> usize {
 }
 
 // 00 and the position, or the number of the reason why there is none.
-fn put_interpolated(page: &mut [u8], at: usize, i: Interpolated) -> usize {
-    let first = put_short(page, at, i.number() as u64);
+fn put_interpolated(page: &mut [u8], at: usize, i: Result<NVector, Outside>) -> usize {
     match i {
-        Interpolated::Position(p) => {
-            let next = put_gap(page, first);
-            put_vec3(page, next, p.as_vec3())
-        }
-        Interpolated::Outside => first,
+        Ok(p) => put_position(page, at, p),
+        Err(e) => put_short(page, at, e.number() as u64),
     }
 }
 

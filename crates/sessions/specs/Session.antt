@@ -1,20 +1,19 @@
 -- A session: a plain board, or none yet. What one frame makes of it, and what it is answered. Definitions only.
 use Rattle.std.specs.Prelude.{ℕ, ◌≡◌, option_map, Option, Some, None, Result, Ok, Err}
 use Rattle.plain.specs.declared.call.Refusal.{Refusal}
-use Rattle.plain.specs.Asking.{mean, pick, choice_number, choice_identity}
+use Rattle.plain.specs.Asking.{mean, pick}
 use Rattle.plain.specs.Board.{Plain, fresh, begins, answer, after}
-use Rattle.plain.specs.Call.{Answer, answer_number}
+use Rattle.plain.specs.Call.{Answer}
 use Rattle.plain.specs.Code.{plain}
 use Rattle.plain.specs.declared.call.Call.{Call}
 use Rattle.plain.specs.declared.call.Call.TheVariants.{Report, Withdraw, OwnShip, Track, Solve}
-use Rattle.means.specs.Mean as means
-use Rattle.means.specs.declared.Mean.{Mean}
-use Rattle.means.specs.declared.Mean.TheVariants.{Position, Empty, Antipodal}
+use Rattle.means.specs.Mean.{Mean}
 use Rattle.jord.specs.Positions.{as_vec3}
 use Rattle.wire.specs.declared.frame.Frame.{Frame}
 use Rattle.wire.specs.declared.frame.Frame.TheVariants as frame
 use Rattle.wire.specs.declared.kind.Kind.{Kind}
 use Rattle.wire.specs.declared.kind.Kind.TheVariants as kind
+use Rattle.wire.specs.declared.reply.Reason.TheVariants as reason
 use Rattle.wire.specs.declared.reply.Reply.{Reply}
 use Rattle.wire.specs.declared.reply.Reply.TheVariants as reply
 use Rattle.sessions.specs.declared.session.Session.{Session}
@@ -34,18 +33,17 @@ kind_of (Solve i) = kind.Solve
 unfoldable pub told : Kind → Answer → Reply
 told k (Ok None) = reply.Done k
 told k (Ok (Some l)) = reply.Solved l
-told k (Err q) = reply.Refused k (answer_number (Err q))
+told k (Err q) = reply.Refused k (reason.Refusal q)
 
 -- "06 three floats"
 unfoldable pub mean_told : Mean → Reply
-mean_told (Position p) = reply.Mean (as_vec3 p)
-mean_told Empty = reply.Refused kind.Mean (means.number_of Empty)
-mean_told Antipodal = reply.Refused kind.Mean (means.number_of Antipodal)
+mean_told (Ok p) = reply.Mean (as_vec3 p)
+mean_told (Err e) = reply.Refused kind.Mean (reason.NoMean e)
 
 -- "07 identity"
 unfoldable pub pick_told : Result ℕ Refusal → Reply
-pick_told (Ok i) = reply.Pick (choice_identity (Ok i))
-pick_told (Err q) = reply.Refused kind.Pick (choice_number (Err q))
+pick_told (Ok i) = reply.Pick i
+pick_told (Err q) = reply.Refused kind.Pick (reason.Refusal q)
 
 -- ---- the reply of a session
 

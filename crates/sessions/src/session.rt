@@ -3,13 +3,14 @@ ghost use Rattle.std.specs.Prelude.{◌≡◌, None, Some};
 ghost use Rattle.sessions.specs.Session as spec;
 
 use board::board::{fresh, hear};
-use means::Mean;
+use jord::positions::NVector;
+use means::NoMean;
 use plain::call::{Answer, Call, Refusal};
 use plain::state::Board;
 use targets::asking::{mean, pick, total};
 use wire::frame::Frame;
 use wire::kind::Kind;
-use wire::reply::Reply;
+use wire::reply::{Reason, Reply};
 
 // A board, where one has been started.
 #[derive(Clone, Copy)]
@@ -51,7 +52,7 @@ pub fn told(kind: Kind, answer: Answer) -> Reply
     match answer {
         Ok(None) => Reply::Done(kind),
         Ok(Some(line)) => Reply::Solved(line),
-        Err(refusal) => Reply::Refused(kind, refusal.number()),
+        Err(refusal) => Reply::Refused(kind, Reason::Refusal(refusal)),
     }
 }
 
@@ -93,13 +94,12 @@ fn tell(s: Session, call: Call) -> Stepped
 }
 
 // The reply to a mean.
-fn mean_told(m: Mean) -> Reply
+fn mean_told(m: Result<NVector, NoMean>) -> Reply
     ensures { result ≡ spec.mean_told m }
 {
     match m {
-        Mean::Position(p) => Reply::Mean(p.as_vec3()),
-        Mean::Empty => Reply::Refused(Kind::Mean, m.number()),
-        Mean::Antipodal => Reply::Refused(Kind::Mean, m.number()),
+        Ok(p) => Reply::Mean(p.as_vec3()),
+        Err(e) => Reply::Refused(Kind::Mean, Reason::NoMean(e)),
     }
 }
 
@@ -109,7 +109,7 @@ fn pick_told(choice: Result<u16, Refusal>) -> Reply
 {
     match choice {
         Ok(identity) => Reply::Pick(identity),
-        Err(refusal) => Reply::Refused(Kind::Pick, refusal.number()),
+        Err(refusal) => Reply::Refused(Kind::Pick, Reason::Refusal(refusal)),
     }
 }
 

@@ -7,6 +7,8 @@ use Rattle.unhex.specs.Digits.{all_digits, hex_at}
 use Rattle.hex_digits.specs.Hex.{digits}
 use Rattle.wire.specs.declared.frame.Frame.TheVariants.{Fresh, Told, Mean}
 use Rattle.wire.specs.declared.kind.Kind.TheVariants.{Pick}
+use Rattle.plain.specs.declared.call.Refusal.TheVariants.{NoMeeting}
+use Rattle.wire.specs.declared.reply.Reason.TheVariants.{Refusal}
 use Rattle.wire.specs.declared.reply.Reply.TheVariants as reply
 use Rattle.wire.specs.Frame.{said, of_kind, frame_of}
 use Rattle.wire.specs.Reply.{float_digits, reply_digits}
@@ -48,7 +50,7 @@ unfolding frame_of of_kind said all_digits hex_at
 carriage = refl
 
 -- 0713: number 19
-refused : reply_digits (reply.Refused Pick 19) ≡ 48 ∷ 55 ∷ 49 ∷ 51 ∷ []
+refused : reply_digits (reply.Refused Pick (Refusal NoMeeting)) ≡ 48 ∷ 55 ∷ 49 ∷ 51 ∷ []
 unfolding reply_digits digits
 refused = refl
 

@@ -7,6 +7,8 @@ ghost use Rattle.wire.specs.Reply as spec;
 
 use crate::kind::Kind;
 use arcs::Side;
+use means::NoMean;
+use plain::call::Refusal;
 use plain::line::Line;
 use vectors::vec3::Vec3;
 use walks::Outcome;
@@ -20,13 +22,32 @@ const NO_FRAME: u8 = 1;
 // The digits of the longest reply, a line's.
 pub const MOST_REPLY_DIGITS: usize = 114;
 
+// Why a frame is refused: a question was answered by no, or there is no mean.
+#[derive(Clone, Copy)]
+pub enum Reason {
+    Refusal(Refusal),
+    NoMean(NoMean),
+}
+
+impl Reason {
+    // Document 01's number of the refusal.
+    pub fn number(self) -> u8
+        ensures { result ≡ spec.reason_number self }
+    {
+        match self {
+            Reason::Refusal(refusal) => refusal.number(),
+            Reason::NoMean(why) => why.number(),
+        }
+    }
+}
+
 // A reply by value.
 #[derive(Clone, Copy)]
 pub enum Reply {
     // A kind that is done and hands out nothing.
     Done(Kind),
-    // A kind and the number of its refusal.
-    Refused(Kind, u8),
+    // A kind, and why it is refused.
+    Refused(Kind, Reason),
     Solved(Line),
     Mean(Vec3),
     Pick(u16),
@@ -115,7 +136,7 @@ fn write(out: &mut [u8], at: usize, reply: Reply) -> usize
 {
     match reply {
         Reply::Done(kind) => put_two(out, at, kind.number(), 0),
-        Reply::Refused(kind, number) => put_two(out, at, kind.number(), number),
+        Reply::Refused(kind, why) => put_two(out, at, kind.number(), why.number()),
         Reply::Solved(line) => {
             let next = put_two(out, at, Kind::Solve.number(), 0);
             put_line(out, next, line)

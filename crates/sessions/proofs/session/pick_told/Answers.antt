@@ -8,4 +8,4 @@ returns-in-Ok c = rw c.in-Ok.is
 
 pub returns-in-Err : goal.returns-in-Err
 unfolding pick_told
-returns-in-Err c = rw (c.number.ensures, c.in-Err.is)
+returns-in-Err c = rw c.in-Err.is

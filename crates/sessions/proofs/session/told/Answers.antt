@@ -12,4 +12,4 @@ returns-in-Ok-Some c = rw (c.in-Ok-Some.is, c.in-Ok-Some.field-0-is)
 
 pub returns-in-Err : goal.returns-in-Err
 unfolding told
-returns-in-Err c = rw (c.number.ensures, c.in-Err.is)
+returns-in-Err c = rw c.in-Err.is

@@ -52,7 +52,7 @@ returns-in-Done c =
 pub returns-in-Refused : goal.returns-in-Refused
 unfolding reply_digits
 returns-in-Refused c =
-    as-length (rw c.number-in-Refused.ensures at c.put_two-in-Refused.ensures) (sym (ap reply_digits c.in-Refused.is))
+    as-length (rw (c.number-in-Refused.ensures, c.number-in-Refused-2.ensures) at c.put_two-in-Refused.ensures) (sym (ap reply_digits c.in-Refused.is))
 
 pub returns-in-Solved : goal.returns-in-Solved
 unfolding reply_digits
