@@ -8,15 +8,15 @@ use Rattle.sessions.proofs.session.step.Goals as goal
 
 pub returns-in-Some-Mean : goal.returns-in-Some-Mean
 unfolding next
-returns-in-Some-Mean c = asked _ (Some Mean) (c.in-Some-Mean.is ∙ ap Some c.in-Some-Mean.field-0-is) c.ask_mean.ensures refl
+returns-in-Some-Mean c = asked _ (Some Mean) (c.in-Some-Mean.is ∙ ap Some (rw c.in-Some-Mean.is at c.in-Some-Mean.field-0-is)) c.ask_mean.ensures refl
 
 pub returns-in-Some-Pick : goal.returns-in-Some-Pick
 unfolding next
-returns-in-Some-Pick c = asked _ (Some Pick) (c.in-Some-Pick.is ∙ ap Some c.in-Some-Pick.field-0-is) c.ask_pick.ensures refl
+returns-in-Some-Pick c = asked _ (Some Pick) (c.in-Some-Pick.is ∙ ap Some (rw c.in-Some-Pick.is at c.in-Some-Pick.field-0-is)) c.ask_pick.ensures refl
 
 pub returns-in-Some-Total : goal.returns-in-Some-Total
 unfolding next
-returns-in-Some-Total c = asked _ (Some Total) (c.in-Some-Total.is ∙ ap Some c.in-Some-Total.field-0-is) c.ask_total.ensures refl
+returns-in-Some-Total c = asked _ (Some Total) (c.in-Some-Total.is ∙ ap Some (rw c.in-Some-Total.is at c.in-Some-Total.field-0-is)) c.ask_total.ensures refl
 
 pub returns-in-None : goal.returns-in-None
 returns-in-None c = no-frame _ c.in-None.is
