@@ -8,34 +8,26 @@ ghost use Rattle.console.specs.Way.{way_of, is_fault, is_told, words_of, SaysLin
 use std::io;
 use std::io::Write;
 
-// How a program goes on, or why it ends. A call that failed has left its error.
+// Why a program ended before its input did. A call that failed has left its error.
 #[derive(Clone, Copy)]
-pub enum Way {
-    On,
-    Ended,
-    ReadFailed(io::Error),
-    WriteFailed(io::Error),
+pub enum Failure {
+    Reading(io::Error),
+    Writing(io::Error),
+    // It had as many turns as it takes, and there may be more to read.
+    Unfinished,
 }
 
-// How to go on after a read: it failed, or so many bytes came, and nothing is the end.
-pub fn way_of(got: io::Result<usize>) -> Way
+// What a read came to: so many bytes, or none where the input has ended; or it failed.
+pub fn way_of(got: io::Result<usize>) -> Result<Option<usize>, Failure>
     ensures { result ≡ way_of got }
 {
-    let n = match got {
-        Ok(n) => n,
-        Err(error) => {
-            return Way::ReadFailed(error);
-        }
-    };
-    if n > 0 {
-        return Way::On;
-    }
-    Way::Ended
+    let n = got.map_err(Failure::Reading)?;
+    Ok(if n > 0 { Some(n) } else { None })
 }
 
 // Says in a line of the program's own words which failed, the reading or the writing, and why.
 // Of a write that is no fault nothing is said. A line that cannot be written is lost.
-pub fn tell<W: Write>(err: &mut W, way: Way, reading: &[u8], writing: &[u8])
+pub fn tell<W: Write>(err: &mut W, way: Result<(), Failure>, reading: &[u8], writing: &[u8])
     ensures unchanged { (reading.exit.now ≡ reading.entry.now) × (writing.exit.now ≡ writing.entry.now) }
     ensures silent { is_told way ≡ false → Keeps (W.contents err.old) (W.contents err.new) }
 {
@@ -43,18 +35,20 @@ pub fn tell<W: Write>(err: &mut W, way: Way, reading: &[u8], writing: &[u8])
 }
 
 // The line, or nothing, and whether it could be written.
-fn say<W: Write>(err: &mut W, way: Way, reading: &[u8], writing: &[u8]) -> io::Result<()>
+fn say<W: Write>(
+    err: &mut W,
+    way: Result<(), Failure>,
+    reading: &[u8],
+    writing: &[u8],
+) -> io::Result<()>
     ensures said { is_told way ≡ true → OnOk result (SaysLine (words_of way reading.now writing.now) (W.contents err.old) (W.contents err.new)) }
     ensures silent { is_told way ≡ false → IsOk result × Keeps (W.contents err.old) (W.contents err.new) }
 {
     match way {
-        Way::On | Way::Ended => Ok(()),
-        Way::ReadFailed(error) => fail(err, reading, error),
-        Way::WriteFailed(error) => {
-            let told = match error.raw_os_error() {
-                Some(code) => is_fault(code),
-                None => true,
-            };
+        Ok(()) | Err(Failure::Unfinished) => Ok(()),
+        Err(Failure::Reading(error)) => fail(err, reading, error),
+        Err(Failure::Writing(error)) => {
+            let told = error.raw_os_error().is_none_or(is_fault);
             if told {
                 return fail(err, writing, error);
             }

@@ -96,7 +96,7 @@ cut o q = record { board = o; part = take kept q }
 ended-text : (o : Option Plain) (q : List ℕ) → end_text (cut o q) ≡ replies_to o (lone q)
 unfolding end_text last_text replies_to
 ended-text o [] = refl
-ended-text o (y ∷ q) = ap (λ (f : Frame). reply_line o f) (frame-cut (y ∷ q)) ∙ sym (append-nil (reply_line o (frame_of (y ∷ q))))
+ended-text o (y ∷ q) = ap (λ (f : Option Frame). reply_line o f) (frame-cut (y ∷ q)) ∙ sym (append-nil (reply_line o (frame_of (y ∷ q))))
 
 abbrev Whole : List ℕ → Type 0
 Whole xs = (o : Option Plain) (q : List ℕ) → all_text (cut o q) xs ≡ replies_to o (begun q (lines_of xs))

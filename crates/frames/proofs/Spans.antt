@@ -1,14 +1,19 @@
 -- The laws of lines in a piece: how far there is no newline, where a line ends, and what is kept of it.
+use Rattle.std.proofs.lemmas.List.{take_min}
 use Prim.Native.Nat.{ℕ, ◌+◌, ◌-◌, ◌≤◌, ◌<◌, min}
 use mathlib.Core.Bool.{Bool, true, false, true≢false, ◌||◌}
 use mathlib.Core.List.{List, ◌++◌}
 use mathlib.Core.Logic.{◌≢◌}
 use mathlib.Core.Path.{◌≡◌, refl, sym, ap, ◌∙◌}
 use native.Mathlib.Omega.{arith}
-use borrow.Author.Tests.{lt-ltb, le-ltb, eqb-false}
+use borrow.Author.Tests.{eqb-false, eqb-true, ltb-false}
+use Rattle.std.specs.Prelude.{◌==◌, Option, Some, None, nat_lt, not, cond}
+use Rattle.std.specs.List.{position, position_or_len}
+use Rattle.std.specs.Option.{unwrap_or}
+use Rattle.std.proofs.lemmas.List.Sums.{passes_at_first, fails_before_first, prefix_len-le-length}
 use lib.Dec.{eqb}
-use lib.ListN.{length, take, drop, get_or}
-use lib.Seq.{get_or-take, get_or-drop, length-take-le, take_all, take-append-add, paste, take-paste}
+use lib.ListN.{length, take, drop, get_or, length-drop}
+use lib.Seq.{get_or-take, get_or-drop, length-take-le, take_all, take-append-add}
 use Rattle.unhex.specs.Digits.{all_digits}
 use Rattle.unhex.proofs.Read.{digit-from, digits-each, part_length}
 use Rattle.frames.specs.Line.{kept, least, NoNewline, Holds, Passes, EndsAt, part}
@@ -72,30 +77,44 @@ module _ (s : List ℕ) where
       let none = none-of-digits at n (omega arith) d in
       record { passes = further (at + n) (omega arith) (omega arith) none (begun at (omega arith)); ends = λ l. e }
 
--- ---- what is kept
+-- the first newline from i on, found in the rest of s
+found : (xs : List ℕ) (b : Bool) → b ≡ nat_lt (position_or_len (λ x. x == newline) xs) (length xs)
+    → unwrap_or (cond b (Some (position_or_len (λ x. x == newline) xs)) None) (length xs) ≡ position_or_len (λ x. x == newline) xs
+found xs true e = refl
+found xs false e =
+    let n = ltb-false (position_or_len (λ (x : ℕ). x == newline) xs) (length xs) (sym e) in
+    omega (arith, prefix_len-le-length (λ (x : ℕ). not (x == newline)) xs)
 
--- the lesser, as arithmetic reads it
-pub least-is : (n : ℕ) → least n ≡ min n kept
-least-is n =
-    split kept n
-    (λ h. rw (le-ltb n kept h) (omega arith))
-    (λ h. rw (lt-ltb n kept h) (omega arith))
+pub newline-at : (s : List ℕ) {at i : ℕ} {rest : List ℕ} → Passes s at i → rest ≡ drop i s
+    → (unwrap_or (position (λ b. b == newline) rest) (length s - i) ≤ length s - i)
+        × EndsAt s at (i + unwrap_or (position (λ b. b == newline) rest) (length s - i))
+newline-at s {at} {i} {rest} p e =
+    let n : ℕ = position_or_len (λ (b : ℕ). b == newline) rest in
+    let l : length rest ≡ length s - i = ap (λ (z : List ℕ). length z) e ∙ length-drop i s in
+    let within : n ≤ length rest = prefix_len-le-length (λ (x : ℕ). not (x == newline)) rest in
+    let byte : (k : ℕ) → get_or rest k 0 ≡ get_or s (i + k) 0 = λ k. ap (λ (z : List ℕ). get_or z k 0) e ∙ get_or-drop i s k 0 in
+    let none : NoNewline s i (i + n) = λ k u w h.
+        let j : i + (k - i) ≡ k = omega arith in
+        let f = fails_before_first (λ (b : ℕ). b == newline) rest (k - i) 0 (omega arith) in
+        eqb-false (get_or rest (k - i) 0) newline f (byte (k - i) ∙ ap (λ (x : ℕ). get_or s x 0) j ∙ h) in
+    rw (← l, found rest (nat_lt n (length rest)) refl)
+    (within, record {
+      passes = further s (i + n) (omega arith) (omega (arith, p.within)) none p;
+      ends = λ w. sym (byte n) ∙ eqb-true (get_or rest n 0) newline (passes_at_first (λ (b : ℕ). b == newline) rest 0 (omega arith));
+    })
+
+-- ---- what is kept
 
 -- no more is taken than there is
 take-there : (l : List ℕ) (m k : ℕ) → m ≡ min k (length l) → take m l ≡ take k l
-take-there l m k e =
-    split (length l) k
-    (λ h. take_all m l (omega arith) ∙ sym (take_all k l h))
-    (λ h. let m-is-k : m ≡ k = omega arith in ap (λ (j : ℕ). take j l) m-is-k)
+take-there l m k e = ap (λ (j : ℕ). take j l) e ∙ take_min k l
 
--- what is kept of a line's first n bytes and more, once m of these are copied
-pub kept-text : (line : List ℕ) (n : ℕ) (more : List ℕ) (m : ℕ) → n ≤ length line → n + m ≡ least (n + length more)
-    → take (least (n + length more)) (paste line n more m) ≡ take kept (take n line ++ more)
-kept-text line n more m h e =
-    let lesser = least-is (n + length more) in
+-- what is kept of a line's first n bytes and more, where the first n + m of `out` are those
+pub kept-text : (line more out : List ℕ) (n m : ℕ) → n ≤ length line → n + m ≡ least (n + length more) → take (n + m) out ≡ take n line ++ take m more
+    → take (least (n + length more)) out ≡ take kept (take n line ++ more)
+kept-text line more out n m h e w =
     let all : length (take n line) + (kept - n) ≡ kept = omega (arith, length-take-le n line h) in
-    ap (λ (k : ℕ). take k (paste line n more m)) (sym e)
-    ∙ take-paste line n more m h (omega arith)
+    ap (λ (k : ℕ). take k out) (sym e) ∙ w
     ∙ ap (λ (t : List ℕ). take n line ++ t) (take-there more m (kept - n) (omega arith))
     ∙ sym (take-append-add (take n line) more (kept - n))
     ∙ ap (λ (k : ℕ). take k (take n line ++ more)) all

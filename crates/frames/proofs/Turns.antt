@@ -1,6 +1,7 @@
 -- A run of bytes and a newline in a piece: what the state, the text and the bytes used come to.
 use Rattle.std.specs.Prelude.{Option}
-use Prim.Native.Nat.{ℕ, zero, suc, ◌+◌, ◌-◌, ◌≤◌, ◌<◌}
+use Prim.Native.Nat.{ℕ, zero, suc, ◌+◌, ◌-◌, ◌≤◌, ◌<◌, min}
+use Rattle.std.proofs.lemmas.List.{take_min}
 use mathlib.Core.Bool.{Bool, true, false, cond}
 use mathlib.Core.List.{List, [], ◌∷◌, ◌++◌, append-nil}
 use mathlib.Core.Logic.{◌≢◌}
@@ -13,24 +14,20 @@ use lib.Dec.{ltb}
 use lib.ListN.{length, take, drop, set, get_or, length-drop, take-append-drop}
 use lib.Seq.{take_all, take-suc, take-add, drop-cons, drop-drop, length-take-le, get_or-take, get_or-drop, append_snoc}
 use Rattle.plain.specs.Board.{Plain}
-use Rattle.board.specs.Glance.{setting_of, board_of}
-use Rattle.board.specs.declared.glance.Setting.{Setting}
 use Rattle.hex_digits.specs.Write.{Put, Wrote}
 use Rattle.hex_digits.proofs.Write.{then, as-length, put-wrote, wrote-byte, wrote_nothing}
 use Rattle.wire.specs.declared.frame.Frame.{Frame}
 use Rattle.wire.specs.declared.reply.Reply.{Reply}
 use Rattle.sessions.specs.declared.session.Session.{Session}
 use Rattle.sessions.specs.declared.session.Stepped.{Stepped}
-use Rattle.frames.specs.declared.stream.InParts.{InParts}
 use Rattle.frames.specs.declared.stream.Stream.{Stream}
 use Rattle.wire.specs.Frame.{frame_of}
-use Rattle.sessions.specs.Quick.{session_of}
 use Rattle.wire.specs.Reply.{reply_digits}
 use Rattle.sessions.specs.Session.{reply_of, next, plain_of, Stepping}
 use Rattle.frames.specs.Whole.{newline, reply_line}
 use Rattle.frames.specs.Line.{kept, least, part, Passes}
 use Rattle.frames.specs.Stream.{room, Model, stepped, answered, fed_state, fed_text, last_text, end_text, used_of, view, last_in, Written, Finishing}
-use Rattle.frames.specs.Turn.{PutReplyLine, Answering}
+use Rattle.frames.specs.Turn.{PutReplyLine}
 use Rattle.frames.proofs.Pieces.{split, state-append, text-append, added-cut, frame-cut}
 use Rattle.wire.proofs.Sizes.{reply-short}
 
@@ -119,13 +116,7 @@ passed-bytes {m} {xs} {page₀} {page} {line} {s} {at} {i} {e} v w =
 -- ---- what is kept of a line
 
 pub clamped : (line : List ℕ) (n k : ℕ) → length line ≡ kept → k ≡ least n → take k line ≡ take n line
-clamped line n k l e =
-    split kept n
-    (λ h. rw (e, le-ltb n kept h, take_all kept line (omega arith), take_all n line (omega arith)))
-    (λ h. rw (e, lt-ltb n kept h))
-
-pub least_fits : (n : ℕ) → least n ≤ kept
-least_fits n = split kept n (λ h. rw (le-ltb n kept h) (omega arith)) (λ h. rw (lt-ltb n kept h) (omega arith))
+clamped line n k l e = ap (λ (j : ℕ). take j line) (e ∙ ap (min n) (sym l)) ∙ take_min n line
 
 -- ---- the end of the input
 
@@ -151,25 +142,14 @@ pub put-reply-line : {page mid : List ℕ} {at n : ℕ} (y : Reply) → Put page
 put-reply-line {page} {mid} {at} {n} y w h = as-length (then (put-room y w h) (wrote-byte mid n newline (put-below y w h))) refl
 
 -- the reply that a step gives
-reply-written : (o : Option Plain) (f : Frame) {y : Reply} {page out : List ℕ} {at n : ℕ} → y ≡ reply_of o f → PutReplyLine y page at out n
+reply-written : (o : Option Plain) (f : Option Frame) {y : Reply} {page out : List ℕ} {at n : ℕ} → y ≡ reply_of o f → PutReplyLine y page at out n
     → Wrote page at (length (reply_line o f)) (reply_line o f) out n
 unfolding reply_line
 reply-written o f {y} {page} {out} {at} {n} e w = subst (λ (y : Reply). PutReplyLine y page at out n) e w
 
-pub answering : {s : Session} {f : Frame} {page out : List ℕ} {at n : ℕ} {r : Stepped} {q : Setting} → Stepping s f r
-    → q ≡ setting_of r.session.board → PutReplyLine r.reply page at out n
-    → Answering s f page at out (record { started = r.session.started; setting = q; targets = r.session.board.targets; next = n })
-unfolding session_of board_of setting_of
-answering {s} {f} {page} {out} {at} {n} {r} {q} st e w =
-    record {
-      session_is = rw e st.session_is;
-      counted = rw e;
-      wrote = reply-written (plain_of s) f st.reply_is w;
-    }
-
--- a newline passed: the frame of its line answered where any reply fits, by a step or by `answer`
+-- a newline passed: the frame of its line answered where any reply fits
 module _ {m : Model} {xs page₀ page line : List ℕ} {s : Session} {at i : ℕ} (v : Passed m xs page₀ page s line at i) (h : i < length xs)
-    (e : get_or xs i 0 ≡ newline) (k : at + room ≤ length page) {f : Frame} (g : f ≡ frame_of line) where
+    (e : get_or xs i 0 ≡ newline) (k : at + room ≤ length page) {f : Option Frame} (g : f ≡ frame_of line) where
   next-bytes : take (i + 1) xs ≡ take i xs ++ (newline ∷ [])
   next-bytes = rw (add-one i, ← e) (take-suc xs i 0 h)
 
@@ -198,18 +178,11 @@ module _ {m : Model} {xs page₀ page line : List ℕ} {s : Session} {at i : ℕ
             (omega arith);
       }
 
-  pub passed-step : {out : List ℕ} {next' : ℕ} {r : Stepped} → Stepping s f r → PutReplyLine r.reply page at out next'
+  pub passed-step : {out : List ℕ} {next' : ℕ} {y : Reply} {r : Stepped} → Stepping s f r → y ≡ r.reply → PutReplyLine y page at out next'
       → Passed m xs page₀ out r.session [] next' (i + 1)
-  passed-step {r = r} st w = line-passed r.session st.session_is (reply-written (plain_of s) f st.reply_is w)
+  passed-step {r = r} st e w = line-passed r.session st.session_is (reply-written (plain_of s) f (e ∙ st.reply_is) w)
 
-  pub passed-whole : {out : List ℕ} {r : InParts} → Answering s f page at out r
-      → Passed m xs page₀ out (session_of r.started r.setting r.targets.entries) [] r.next (i + 1)
-  passed-whole a = line-passed _ a.session_is a.wrote
-
--- what is answered of a session is answered of an equal one, and what has passed from a start has passed from an equal one
-pub answering_by : {s t : Session} {f : Frame} {page out : List ℕ} {at : ℕ} {r : InParts} → s ≡ t → Answering s f page at out r → Answering t f page at out r
-answering_by {f = f} {page} {out} {at} {r} e a = subst (λ (x : Session). Answering x f page at out r) e a
-
+-- what has passed from a start has passed from an equal one
 pub passed-from : {s t : Session} {p xs page₀ page line : List ℕ} {session : Session} {at i : ℕ} → s ≡ t
     → Passed (record { board = plain_of s; part = p }) xs page₀ page session line at i
     → Passed (record { board = plain_of t; part = p }) xs page₀ page session line at i
@@ -234,11 +207,11 @@ finished-none s page {k} l e z =
     let t : [] ≡ last_in (view s) (length page) = rw p (sym (no-choice (ltb (length page) room))) in
     written-by t (wrote_nothing page 0 (omega arith))
 
-pub finished-line : (s : Stream) {page out : List ℕ} {k : ℕ} {r : InParts} → length s.line ≡ kept → k ≡ least s.n → (k ≡ 0 → ⊥)
-    → room ≤ length page → {f : Frame} → f ≡ frame_of (take k s.line) → Answering s.session f page 0 out r → Finishing s page out r.next
+pub finished-line : (s : Stream) {page out : List ℕ} {k n : ℕ} {r : Stepped} → length s.line ≡ kept → k ≡ least s.n → (k ≡ 0 → ⊥)
+    → room ≤ length page → {f : Option Frame} → f ≡ frame_of (take k s.line) → Stepping s.session f r → PutReplyLine r.reply page 0 out n → Finishing s page out n
 unfolding last_in end_text
-finished-line s {page} {out} {k} {r} l e z h {f} g w =
+finished-line s {page} {out} {k} {n} l e z h {f} g st w =
     let t : reply_line (plain_of s.session) f ≡ last_in (view s) (length page) =
     ap (reply_line (plain_of s.session)) g ∙ begun-text (plain_of s.session) s.line k z l
     ∙ ap (last_text (plain_of s.session)) (clamped s.line s.n k l e) ∙ sym (simp (le-ltb (length page) room h)) in
-    written-by t w.wrote
+    written-by t (reply-written (plain_of s.session) f st.reply_is w)

@@ -1,8 +1,8 @@
 -- The lines of a piece of the input: where one ends, and what is kept of it. Definitions only.
-use Rattle.std.specs.Prelude.{ℕ, ◌+◌, ◌-◌, ◌≤◌, ◌<◌, Bool, false, cond, List, ◌++◌, ◌≢◌, ◌≡◌, ltb, length, take, drop, get_or}
+use Rattle.std.specs.Prelude.{ℕ, ◌+◌, ◌-◌, ◌≤◌, ◌<◌, Bool, false, List, ◌++◌, ◌≢◌, ◌≡◌, min, length, take, drop, get_or}
 use Rattle.unhex.specs.Digits.{all_digits}
 use Rattle.frames.specs.declared.line.LineSpan.{LineSpan}
-use Rattle.wire.specs.Frame.{most_frame_digits}
+use Rattle.wire.specs.Kind.{most_frame_digits}
 use Rattle.frames.specs.Whole.{newline}
 
 -- how many bytes of a line are kept: one more than the longest frame has, so that a longer line is no frame
@@ -11,7 +11,7 @@ kept = most_frame_digits + 1
 
 -- the lesser of n and what is kept
 abbrev pub least : ℕ → ℕ
-least n = cond (ltb n kept) n kept
+least n = min n kept
 
 -- no newline stands from a on as far as b
 abbrev pub NoNewline : List ℕ → ℕ → ℕ → Type 0

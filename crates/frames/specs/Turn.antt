@@ -1,16 +1,15 @@
 -- What the functions under `feed` and `finish` hand to one another. Definitions only.
 use Rattle.std.specs.Prelude.{ℕ, ◌+◌, ◌-◌, ◌≤◌, Bool, true, cond, List, [], ◌∷◌, ◌++◌, ◌≢◌, ◌≡◌, ltb, length, take, drop}
 use Rattle.hex_digits.specs.Write.{Wrote}
-use Rattle.wire.specs.declared.frame.Frame.{Frame}
+use Rattle.plain.specs.Targets.{most_targets}
 use Rattle.wire.specs.declared.reply.Reply.{Reply}
 use Rattle.wire.specs.Reply.{reply_digits}
 use Rattle.sessions.specs.declared.session.Session.{Session}
-use Rattle.sessions.specs.Quick.{session_of}
-use Rattle.sessions.specs.Session.{next, plain_of}
+use Rattle.sessions.specs.Quick.{session_of, Standing}
 use Rattle.frames.specs.declared.stream.InParts.{InParts}
 use Rattle.frames.specs.declared.stream.Fed.{Fed}
 use Rattle.frames.specs.declared.stream.Stream.{Stream}
-use Rattle.frames.specs.Whole.{newline, reply_line}
+use Rattle.frames.specs.Whole.{newline}
 use Rattle.frames.specs.Stream.{room, fed_state, fed_text, used_of, view, Written}
 
 -- what comes next waits: a line that does not end in the piece, or a reply that might not fit what is left of the page
@@ -21,13 +20,13 @@ waits e n left = cond (ltb e n) (ltb left room) true
 abbrev pub PutReplyLine : Reply → List ℕ → ℕ → List ℕ → ℕ → Type 0
 PutReplyLine y page at out next = Wrote page at (length (reply_digits y ++ (newline ∷ []))) (reply_digits y ++ (newline ∷ [])) out next
 
--- the reply to a frame, with its newline, over a page, and the session in its parts
-pub record Answering (s : Session) (f : Frame) (page : List ℕ) (at : ℕ) (out : List ℕ) (r : InParts) : Type 0 where
-  pub session_is : plain_of (session_of r.started r.setting r.targets.entries) ≡ next (plain_of s) f
-  pub counted : r.targets.count ≡ r.setting.count
-  pub wrote : Wrote page at (length (reply_line (plain_of s) f)) (reply_line (plain_of s) f) out r.next
+-- a session in its parts, which are those of the session
+pub record PartsOf (s : Session) (r : InParts) : Type 0 where
+  pub same : session_of r.setting r.entries ≡ s
+  pub stands : Standing r.setting r.ids r.entries
+  pub long : length r.ids ≡ most_targets
 
--- the same for the line that has begun alone: where it is not yet answered all that can be used is, and where it is the rest of the piece is left
+-- the line that has begun alone: where it is not yet answered all that can be used is, and where it is the rest of the piece is left
 pub record GoingOn (s : Stream) (xs page out : List ℕ) (r : Fed) : Type 0 where
   pub within : r.used ≤ length xs
   pub stops : r.stream.n ≢ 0 → r.used ≡ used_of (view s) (length page) xs

@@ -25,7 +25,7 @@ lines_of (x ∷ xs) = cond (eqb x newline) ([] ∷ lines_of xs) (onto x (lines_o
 -- ---- the replies
 
 -- the reply to a frame, of a session as the lines before left it, with its newline
-unfoldable pub reply_line : Option Plain → Frame → List ℕ
+unfoldable pub reply_line : Option Plain → Option Frame → List ℕ
 reply_line o f = reply_digits (reply_of o f) ++ (newline ∷ [])
 
 -- the replies to lines, each of the session that the line before left

@@ -1,8 +1,11 @@
 // The lines of a piece: where one ends, whether it is digits alone, and what is kept of one that has begun.
-ghost use Rattle.std.specs.Prelude.{◌≡◌, ◌+◌, ◌≤◌, length};
+ghost use Rattle.std.specs.List.{position};
+ghost use Rattle.std.specs.Prelude.{◌≡◌, ◌==◌, ◌+◌, ◌≤◌, length};
+ghost use Rattle.frames.specs.Whole.{newline};
 ghost use Rattle.frames.specs.Line as spec;
 
-use wire::frame::{ASKED, FRESH, MOST_FRAME_DIGITS, NAMED, OWN_SHIP, REPORT};
+use wire::frame::MOST_FRAME_DIGITS;
+use wire::kind::Kind;
 
 // How many bytes of a line are kept: one more than the longest frame has, so that a longer line is no frame.
 pub const KEPT: usize = MOST_FRAME_DIGITS + 1;
@@ -25,13 +28,10 @@ fn holds(s: &[u8], at: usize) -> bool
     requires { at + 16 ≤ length s.now }
     ensures { spec.Holds s.now at 16 result }
 {
-    let part = &s[at..at + BLOCK];
-    let mut met = false;
-    let mut i = 0;
     // No early return: the compiler then tests a whole block at once.
-    while i < BLOCK {
-        met = met | (part[i] == NEWLINE);
-        i += 1;
+    let mut met = false;
+    for b in &s[at..at + BLOCK] {
+        met |= *b == NEWLINE;
     }
     met
 }
@@ -51,39 +51,29 @@ fn skip(s: &[u8], at: usize) -> usize
     i
 }
 
+// The place of the first newline.
+fn newline_in(part: &[u8]) -> Option<usize>
+    ensures { result ≡ position (λ b. b == newline) part.now }
+{
+    part.iter().position(|b| *b == NEWLINE)
+}
+
 // The place of the first newline of s from at on, or the end of s.
 pub(crate) fn end_of_line(s: &[u8], at: usize) -> usize
     requires { at ≤ length s.now }
     ensures { spec.EndsAt s.now at result }
 {
-    let mut i = skip(s, at);
-    while i < s.len() {
-        if s[i] == NEWLINE {
-            return i;
-        }
-        i += 1;
-    }
-    i
+    let i = skip(s, at);
+    i + newline_in(&s[i..]).unwrap_or(s.len() - i)
 }
 
 // The length that a line of s from at on has if it is a frame, by the second digit of its kind. What it says is tested.
 fn likely_length(s: &[u8], at: usize) -> usize
     requires { at ≤ length s.now }
 {
-    if s.len() - at < 2 {
-        return 0;
-    }
-    match s[at + 1] {
-        b'0' => FRESH,
-        b'1' => REPORT,
-        b'2' => NAMED,
-        b'3' => OWN_SHIP,
-        b'4' => MOST_FRAME_DIGITS,
-        b'5' => NAMED,
-        b'6' => ASKED,
-        b'7' => ASKED,
-        b'8' => ASKED,
-        _ => 0,
+    match s[at..].get(1) {
+        Some(digit) => Kind::of_number(digit.wrapping_sub(b'0') as u64).map_or(0, Kind::digits),
+        None => 0,
     }
 }
 
@@ -115,7 +105,7 @@ pub(crate) fn kept_of(n: usize, more: usize) -> usize
     requires { n ≤ spec.kept }
     ensures { result ≡ spec.least (n + more) }
 {
-    if more < KEPT - n { n + more } else { KEPT }
+    n + more.min(KEPT - n)
 }
 
 // The bytes that are kept of a line, where the first n of `line` were kept and `part` has come.
@@ -123,12 +113,8 @@ pub(crate) fn joined(line: [u8; KEPT], n: usize, part: &[u8]) -> [u8; KEPT]
     requires { n ≤ spec.kept }
     ensures { spec.Joined line n part.now result }
 {
-    let more = kept_of(n, part.len()) - n;
+    let m = kept_of(n, part.len());
     let mut out = line;
-    let mut i = 0;
-    while i < more {
-        out[n + i] = part[i];
-        i += 1;
-    }
+    out[n..m].copy_from_slice(&part[..m - n]);
     out
 }

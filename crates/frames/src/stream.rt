@@ -1,17 +1,16 @@
 // A stream of bytes, answered line by line, in whatever pieces it comes.
 ghost use Rattle.std.specs.Prelude.{◌≡◌, ◌+◌, ◌≤◌, length};
-ghost use Rattle.frames.specs.Line.{least};
 ghost use Rattle.sessions.specs.Quick.{session_of};
 ghost use Rattle.frames.specs.Stream as spec;
 ghost use Rattle.frames.specs.Turn as turn;
 
 use crate::line::{KEPT, NEWLINE, end_of_line, joined, kept_of, line_at};
 use board::glance::{Setting, board_of, setting_of};
-use plain::targets::{MOST_TARGETS, Target, Targets};
+use plain::targets::{MOST_TARGETS, Target};
 use sessions::quick::{Quick, look};
 use sessions::session::{Session, step};
-use targets::{bared, identities};
-use wire::frame::{Frame, read, read_known};
+use targets::{bared, empty, identities};
+use wire::frame::{read, read_known};
 use wire::reply::{Reply, put};
 
 // The room that any reply fits, its newline with it.
@@ -25,13 +24,12 @@ pub struct Stream {
     pub n: usize,
 }
 
-// A session in its parts beside the place past what was written.
+// A session in its parts: all of its board but the entries, where it has one, the entries of its targets, and their identities.
 #[derive(Clone, Copy)]
 struct InParts {
-    started: bool,
-    setting: Setting,
-    targets: Targets,
-    next: usize,
+    setting: Option<Setting>,
+    entries: [Target; MOST_TARGETS],
+    ids: [u16; MOST_TARGETS],
 }
 
 // The stream after a piece, how many bytes of it were used, and the place past what was written.
@@ -64,40 +62,43 @@ fn put_reply_line(out: &mut [u8], at: usize, reply: Reply) -> usize
     n + 1
 }
 
-// The reply to a frame, with its newline, over out from at on.
-fn answer(s: Session, frame: Frame, out: &mut [u8], at: usize) -> InParts
-    requires { at + spec.room ≤ length out.old }
-    ensures { turn.Answering s frame out.old at out.new result }
+// A session in its parts.
+fn parts_of(session: Session) -> InParts
+    ensures { turn.PartsOf session result }
 {
-    let stepped = step(s, frame);
-    let session = stepped.session;
-    let reply = stepped.reply;
-    let board = session.board;
-    let targets = board.targets;
-    let setting = setting_of(board);
-    InParts {
-        started: session.started,
-        setting,
-        targets,
-        next: put_reply_line(out, at, reply),
+    match session.board {
+        Some(board) => {
+            let targets = board.targets;
+            let entries = targets.entries;
+            let ids = identities(targets);
+            InParts {
+                setting: Some(setting_of(board)),
+                entries,
+                ids,
+            }
+        }
+        None => {
+            let targets = empty();
+            let entries = targets.entries;
+            InParts {
+                setting: None,
+                entries,
+                ids: [0u16; MOST_TARGETS],
+            }
+        }
     }
 }
 
-// The session of a setting and entries.
-fn session_of(started: bool, setting: Setting, entries: [Target; MOST_TARGETS]) -> Session
-    ensures { result ≡ session_of started setting entries }
+// The session of a setting, if it has one, and entries.
+fn session_of(setting: Option<Setting>, entries: [Target; MOST_TARGETS]) -> Session
+    ensures { result ≡ session_of setting entries }
 {
-    Session {
-        started,
-        board: board_of(setting, entries),
+    match setting {
+        Some(s) => Session {
+            board: Some(board_of(s, entries)),
+        },
+        None => Session { board: None },
     }
-}
-
-// The lesser of n and what is kept of a line.
-fn kept(n: usize) -> usize
-    ensures { result ≡ least n }
-{
-    if n < KEPT { n } else { KEPT }
 }
 
 // Does what comes next wait: a line that does not end in the piece, or a reply that might not fit?
@@ -113,7 +114,7 @@ fn go_on(s: Stream, xs: &[u8], page: &mut [u8]) -> Fed
 {
     let session = s.session;
     let begun = s.line;
-    let n = kept(s.n);
+    let n = s.n.min(KEPT);
     let end = end_of_line(xs, 0);
     let part = &xs[..end];
     let line = joined(begun, n, part);
@@ -129,20 +130,16 @@ fn go_on(s: Stream, xs: &[u8], page: &mut [u8]) -> Fed
             next: 0,
         };
     }
-    let a = answer(session, read(&line[..m]), page, 0);
-    let setting = a.setting;
-    let targets = a.targets;
-    let entries = targets.entries;
-    let after = session_of(a.started, setting, entries);
-    let used = end + 1;
+    let stepped = step(session, read(&line[..m]));
+    let next = put_reply_line(page, 0, stepped.reply);
     Fed {
         stream: Stream {
-            session: after,
+            session: stepped.session,
             line,
             n: 0,
         },
-        used,
-        next: a.next,
+        used: end + 1,
+        next,
     }
 }
 
@@ -151,13 +148,10 @@ fn lines(s: Stream, xs: &[u8], page: &mut [u8]) -> Fed
     requires { s.n ≡ 0 }
     ensures { spec.Feeding s xs.now page.old page.new result }
 {
-    let session = s.session;
-    let board = session.board;
-    let targets = board.targets;
-    let mut started = session.started;
-    let mut setting = setting_of(board);
-    let mut entries = targets.entries;
-    let mut ids = identities(targets);
+    let start = parts_of(s.session);
+    let mut setting = start.setting;
+    let mut entries = start.entries;
+    let mut ids = start.ids;
     let mut at = 0;
     let mut i = 0;
     while i < xs.len() {
@@ -167,41 +161,34 @@ fn lines(s: Stream, xs: &[u8], page: &mut [u8]) -> Fed
             break;
         }
         let frame = read_known(&xs[i..end], span.digits);
-        match look(started, setting, &ids[..], frame) {
-            Quick::Stays(reply) => {
-                at = put_reply_line(page, at, reply);
-            }
-            Quick::Puts(kind, p, target) => {
+        let reply = match look(setting, &ids[..], frame) {
+            Some(Quick::Stays(reply)) => reply,
+            Some(Quick::Puts(kind, p, target)) => {
                 entries[p] = target;
-                at = put_reply_line(page, at, Reply::Done(kind));
+                Reply::Done(kind)
             }
-            Quick::Sweeps(kind, after) => {
-                setting = after;
+            Some(Quick::Sweeps(kind, after)) => {
+                setting = Some(after);
                 entries = bared(entries);
-                at = put_reply_line(page, at, Reply::Done(kind));
+                Reply::Done(kind)
             }
-            Quick::Unclear => {
-                let whole = session_of(started, setting, entries);
-                let a = answer(whole, frame, page, at);
-                let after = a.setting;
-                let ts = a.targets;
-                let es = ts.entries;
-                started = a.started;
-                setting = after;
-                entries = es;
-                ids = identities(ts);
-                at = a.next;
+            None => {
+                let stepped = step(session_of(setting, entries), frame);
+                let parts = parts_of(stepped.session);
+                setting = parts.setting;
+                entries = parts.entries;
+                ids = parts.ids;
+                stepped.reply
             }
-        }
+        };
+        at = put_reply_line(page, at, reply);
         i = end + 1;
     }
     let end = end_of_line(xs, i);
-    let begun = s.line;
-    let line = joined(begun, 0, &xs[i..end]);
-    let session = session_of(started, setting, entries);
+    let line = joined(s.line, 0, &xs[i..end]);
     Fed {
         stream: Stream {
-            session,
+            session: session_of(setting, entries),
             line,
             n: kept_of(0, end - i),
         },
@@ -219,20 +206,14 @@ pub fn feed(s: Stream, xs: &[u8], page: &mut [u8]) -> Fed
         return lines(s, xs, page);
     }
     let first = go_on(s, xs, page);
-    let stream = first.stream;
-    if stream.n > 0 {
+    if first.stream.n > 0 {
         return first;
     }
-    let i = first.used;
-    let at = first.next;
-    let rest = lines(stream, &xs[i..], &mut page[at..]);
-    let last = rest.stream;
-    let used = i + rest.used;
-    let next = at + rest.next;
+    let rest = lines(first.stream, &xs[first.used..], &mut page[first.next..]);
     Fed {
-        stream: last,
-        used,
-        next,
+        stream: rest.stream,
+        used: first.used + rest.used,
+        next: first.next + rest.next,
     }
 }
 
@@ -240,15 +221,10 @@ pub fn feed(s: Stream, xs: &[u8], page: &mut [u8]) -> Fed
 pub fn finish(s: Stream, page: &mut [u8]) -> usize
     ensures { spec.Finishing s page.old page.new result }
 {
-    let n = kept(s.n);
-    if n == 0 {
+    let n = s.n.min(KEPT);
+    if n == 0 || page.len() < ROOM {
         return 0;
     }
-    if page.len() < ROOM {
-        return 0;
-    }
-    let line = s.line;
-    let session = s.session;
-    let a = answer(session, read(&line[..n]), page, 0);
-    a.next
+    let stepped = step(s.session, read(&s.line[..n]));
+    put_reply_line(page, 0, stepped.reply)
 }

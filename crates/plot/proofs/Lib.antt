@@ -1,3 +1,2 @@
 pub mod Progress
-pub mod Turning
 pub mod Whole

@@ -1,14 +1,13 @@
 // Reads frames on standard input and writes the reply to each on standard output, until the input ends or a read or a write fails.
 #![tactic(auto)]
 
-ghost use Rattle.std.specs.Prelude.{◌≡◌, ◌≢◌, ◌≤◌, IfSome, length, take};
-ghost use Rattle.std.specs.Io.KnownBytes.{Appends, Keeps};
-ghost use Rattle.console.specs.Way.{way_of};
+ghost use Rattle.std.specs.Prelude.{◌≤◌, IfSome, OnOk, length};
+ghost use Rattle.std.specs.Io.KnownBytes.{Appends};
 ghost use Rattle.frames.specs.Stream.{end_text, fed_text, room, view};
 ghost use Rattle.frames.specs.Whole.{replies};
-ghost use Rattle.plot.specs.Turn.{count_of, Poured, Turning};
+ghost use Rattle.plot.specs.Turn.{Poured};
 
-use console::Way;
+use console::Failure;
 use frames::stream::Stream;
 use std::env::FillError;
 use std::io;
@@ -23,112 +22,52 @@ const PAGE: usize = 65_536;
 
 const LAST_PAGE: usize = 4_096;
 
-// What a turn leaves: the stream, and how to go on.
-#[derive(Clone, Copy)]
-struct Turned {
-    stream: Stream,
-    way: Way,
-}
-
-// Answers a piece of the input, page by page, and writes each page at once.
-fn pour<W: Write>(out: &mut W, s: Stream, xs: &[u8], page: &mut [u8]) -> Turned
-    requires { room ≤ length page.old }
-    ensures poured { Poured s xs.now result }
-    ensures written { result.way ≡ Way.On → Appends (W.contents out.old) (W.contents out.new) (fed_text (view s) xs.now) }
-{
-    let mut stream = s;
-    let mut i = 0;
-    while i < xs.len() {
-        let fed = frames::stream::feed(stream, &xs[i..], page);
-        let next = fed.stream;
-        stream = next;
-        i += fed.used;
-        let n = fed.next;
-        if let Err(error) = out.write_all(&page[..n]) {
-            return Turned {
-                stream,
-                way: Way::WriteFailed(error),
-            };
-        }
-    }
-    Turned {
-        stream,
-        way: Way::On,
-    }
-}
-
-// How many bytes of the piece a read gave: none where it failed, and never more than there are.
-fn count(got: io::Result<usize>, piece: &[u8]) -> usize
-    ensures within { result ≤ length piece.now }
-    ensures value { result ≡ count_of got (length piece.now) }
-{
-    match got {
-        Ok(n) => n.min(piece.len()),
-        Err(_) => 0,
-    }
-}
-
-// The answer to a read that gave so many bytes, or failed.
-fn answer<W: Write>(
+// Answers a piece of the input, page by page, writes each page at once, and hands back the stream after it.
+fn pour<W: Write>(
     out: &mut W,
     s: Stream,
-    got: io::Result<usize>,
-    piece: &[u8],
+    xs: &[u8],
     page: &mut [u8],
-) -> Turned
+) -> Result<Stream, Failure>
     requires { room ≤ length page.old }
-    ensures turning { Turning s got piece.now result }
-    ensures written { result.way ≡ Way.On → Appends (W.contents out.old) (W.contents out.new) (fed_text (view s) (take (count_of got (length piece.now)) piece.now)) }
-    ensures silent { way_of got ≢ Way.On → Keeps (W.contents out.old) (W.contents out.new) }
+    ensures poured { Poured s xs.now result }
+    ensures written { OnOk result (Appends (W.contents out.old) (W.contents out.new) (fed_text (view s) xs.now)) }
 {
-    let way = console::way_of(got);
-    match way {
-        Way::On => {
-            let n = count(got, piece);
-            pour(out, s, &piece[..n], page)
-        }
-        _ => Turned { stream: s, way },
+    let mut stream = s;
+    let mut rest = xs;
+    while !rest.is_empty() {
+        let fed = frames::stream::feed(stream, rest, page);
+        stream = fed.stream;
+        rest = &rest[fed.used..];
+        out.write_all(&page[..fed.next]).map_err(Failure::Writing)?;
     }
+    Ok(stream)
 }
 
 // The end of the input: the reply to a line that has begun.
-fn last<W: Write>(out: &mut W, s: Stream) -> Way
-    ensures { result ≡ Way.Ended → Appends (W.contents out.old) (W.contents out.new) (end_text (view s)) }
+fn last<W: Write>(out: &mut W, s: Stream) -> Result<(), Failure>
+    ensures { OnOk result (Appends (W.contents out.old) (W.contents out.new) (end_text (view s))) }
 {
     let mut page = [0u8; LAST_PAGE];
     let n = frames::stream::finish(s, &mut page);
-    match out.write_all(&page[..n]) {
-        Ok(()) => Way::Ended,
-        Err(error) => Way::WriteFailed(error),
-    }
+    out.write_all(&page[..n]).map_err(Failure::Writing)
 }
 
-// Answers the whole input, and says how that ended. Each turn takes a byte at least, so 2^64 - 1 turns are more than any input has.
-fn run<R: Read, W: Write>(input: &mut R, out: &mut W) -> Way
-    ensures { result ≡ Way.Ended → IfSome (R.remaining input.old) (λ xs. Appends (W.contents out.old) (W.contents out.new) (replies xs)) }
+// Answers the whole input, unless reading or writing fails. Each turn takes a byte at least, so 2^64 - 1 turns are more than any input has.
+fn run<R: Read, W: Write>(input: &mut R, out: &mut W) -> Result<(), Failure>
+    ensures { OnOk result (IfSome (R.remaining input.old) (λ xs. Appends (W.contents out.old) (W.contents out.new) (replies xs))) }
 {
     let mut stream = frames::stream::begin();
     let mut piece = [0u8; PIECE];
     let mut page = [0u8; PAGE];
-    let mut turns = u64::MAX;
-    while turns > 0 {
-        turns -= 1;
-        let got = input.read(&mut piece);
-        let turned = answer(out, stream, got, &piece, &mut page);
-        let next = turned.stream;
-        stream = next;
-        let way = turned.way;
-        match way {
-            Way::On => {}
-            Way::Ended => {
-                return last(out, stream);
-            }
-            _ => {
-                return way;
-            }
-        }
+    for _ in 0..u64::MAX {
+        let Some(n) = console::way_of(input.read(&mut piece))? else {
+            return last(out, stream);
+        };
+        let came = n.min(PIECE);
+        stream = pour(out, stream, &piece[..came], &mut page)?;
     }
-    Way::On
+    Err(Failure::Unfinished)
 }
 
 // How many words was the program started with? Its own name is the first. With the host's runtime it rests on this one call; with any runtime it would rest on all.

@@ -1,4 +1,5 @@
 pub mod Frame
+pub mod Kind
 pub mod Known
 pub mod Reply
 pub mod Table

@@ -1,13 +1,18 @@
 -- The digits of a reply: "kind, number (2 hexadecimal digits, 00 done), then the answer". Definitions only.
-use Rattle.std.specs.Prelude.{ℕ, List, ◌++◌, Float}
+use Rattle.std.specs.Prelude.{ℕ, List, ◌++◌, Float, Err}
 use Rattle.std.specs.Float.{binary64}
 use Rattle.std.specs.Float.Ieee.{to_bits}
+use Rattle.means.specs.Mean as means
+use Rattle.plain.specs.Call as call
 use Rattle.plain.specs.declared.line.Line.{Line}
 use Rattle.hex_digits.specs.Hex.{digits}
 use Rattle.vectors.specs.declared.vec3.Vec3.{Vec3}
-use Rattle.walks.specs.Outcome.{number_of, nanoseconds_of, count_of}
+use Rattle.walks.specs.Outcome as outcome
 use Rattle.arcs.specs.Side.{side_number}
 use Rattle.walks.specs.declared.Outcome.{Outcome}
+use Rattle.wire.specs.Kind.{number_of}
+use Rattle.wire.specs.declared.reply.Reason.{Reason}
+use Rattle.wire.specs.declared.reply.Reason.TheVariants as reason
 use Rattle.wire.specs.declared.reply.Reply.{Reply}
 use Rattle.wire.specs.declared.reply.Reply.TheVariants.{Done, Refused, Solved, Mean, Pick, Total, NotAFrame}
 
@@ -15,13 +20,18 @@ use Rattle.wire.specs.declared.reply.Reply.TheVariants.{Done, Refused, Solved, M
 abbrev pub two : ℕ → ℕ → List ℕ
 two kind number = digits 2 kind ++ digits 2 number
 
+-- document 01's number of a refusal
+abbrev pub reason_number : Reason → ℕ
+reason_number (reason.Refusal q) = call.number_of q
+reason_number (reason.NoMean e) = means.number_of (Err e)
+
 -- "Floats are 16 digits of their bits, high digit first"; "NaN is 7ff8000000000000"
 abbrev pub float_digits : Float → List ℕ
 float_digits x = digits 16 (to_bits binary64 x)
 
 -- "number, 16 digits nanoseconds, 0 when refused, 2 digits count": 20 digits
 unfoldable pub outcome_digits : Outcome → List ℕ
-outcome_digits o = digits 2 (number_of o) ++ digits 16 (nanoseconds_of o) ++ digits 2 (count_of o)
+outcome_digits o = digits 2 (outcome.number_of o) ++ digits 16 (outcome.nanoseconds_of o) ++ digits 2 (outcome.count_of o)
 
 -- "the line (distance, bearing, side, offset, thrice number, nanoseconds, count)": 110 digits
 unfoldable pub line_digits : Line → List ℕ
@@ -35,8 +45,8 @@ position_digits p = float_digits p.x ++ float_digits p.y ++ float_digits p.z
 
 -- "05 the line, 06 three floats, 07 identity, 08 eight digits. Refused: kind and number alone; number 1, from either cause: ff01"
 unfoldable pub reply_digits : Reply → List ℕ
-reply_digits (Done kind) = two kind 0
-reply_digits (Refused kind number) = two kind number
+reply_digits (Done kind) = two (number_of kind) 0
+reply_digits (Refused kind why) = two (number_of kind) (reason_number why)
 reply_digits (Solved l) = two 5 0 ++ line_digits l
 reply_digits (Mean p) = two 6 0 ++ position_digits p
 reply_digits (Pick i) = two 7 0 ++ digits 4 i

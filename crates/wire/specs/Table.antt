@@ -1,53 +1,56 @@
 -- Worked frames and replies.
-use Rattle.std.specs.Prelude.{[], ◌∷◌, ◌≡◌, refl}
+use Rattle.std.specs.Prelude.{[], ◌∷◌, ◌≡◌, refl, Some, None}
 use Rattle.std.specs.Float.{nan, binary64}
 use Rattle.std.specs.Float.Ieee.{of_bits, to_bits}
 use Rattle.plain.specs.declared.call.Call.TheVariants.{Withdraw}
 use Rattle.unhex.specs.Digits.{all_digits, hex_at}
 use Rattle.hex_digits.specs.Hex.{digits}
-use Rattle.wire.specs.declared.frame.Frame.TheVariants.{Fresh, Told, Mean, NotAFrame}
+use Rattle.wire.specs.declared.frame.Frame.TheVariants.{Fresh, Told, Mean}
+use Rattle.wire.specs.declared.kind.Kind.TheVariants.{Pick}
+use Rattle.plain.specs.declared.call.Refusal.TheVariants.{NoMeeting}
+use Rattle.wire.specs.declared.reply.Reason.TheVariants.{Refusal}
 use Rattle.wire.specs.declared.reply.Reply.TheVariants as reply
-use Rattle.wire.specs.Frame.{framed, frame_of}
+use Rattle.wire.specs.Frame.{said, of_kind, frame_of}
 use Rattle.wire.specs.Reply.{float_digits, reply_digits}
 
 -- 020008
-withdraw : frame_of (48 ∷ 50 ∷ 48 ∷ 48 ∷ 48 ∷ 56 ∷ []) ≡ Told (Withdraw 8)
-unfolding frame_of framed all_digits hex_at
+withdraw : frame_of (48 ∷ 50 ∷ 48 ∷ 48 ∷ 48 ∷ 56 ∷ []) ≡ Some (Told (Withdraw 8))
+unfolding frame_of of_kind said all_digits hex_at
 withdraw = refl
 
 -- 06
-mean : frame_of (48 ∷ 54 ∷ []) ≡ Mean
-unfolding frame_of framed all_digits hex_at
+mean : frame_of (48 ∷ 54 ∷ []) ≡ Some Mean
+unfolding frame_of of_kind said all_digits hex_at
 mean = refl
 
 -- 003ff0000000000000
 radius : frame_of (48 ∷ 48 ∷ 51 ∷ 102 ∷ 102 ∷ 48 ∷ 48 ∷ 48 ∷ 48 ∷ 48 ∷ 48 ∷ 48 ∷ 48 ∷ 48 ∷ 48 ∷ 48 ∷ 48 ∷ 48 ∷ [])
-    ≡ Fresh (of_bits binary64 0x3ff0_0000_0000_0000)
-unfolding frame_of framed all_digits hex_at
+    ≡ Some (Fresh (of_bits binary64 0x3ff0_0000_0000_0000))
+unfolding frame_of of_kind said all_digits hex_at
 radius = refl
 
 -- 0 is no frame
-digit-alone : frame_of (48 ∷ []) ≡ NotAFrame
-unfolding frame_of framed all_digits hex_at
+digit-alone : frame_of (48 ∷ []) ≡ None
+unfolding frame_of of_kind said all_digits hex_at
 digit-alone = refl
 
 -- the empty line is no frame
-nothing : frame_of [] ≡ NotAFrame
-unfolding frame_of framed all_digits hex_at
+nothing : frame_of [] ≡ None
+unfolding frame_of of_kind said all_digits hex_at
 nothing = refl
 
 -- 02000A is no frame
-capital : frame_of (48 ∷ 50 ∷ 48 ∷ 48 ∷ 48 ∷ 65 ∷ []) ≡ NotAFrame
-unfolding frame_of framed all_digits hex_at
+capital : frame_of (48 ∷ 50 ∷ 48 ∷ 48 ∷ 48 ∷ 65 ∷ []) ≡ None
+unfolding frame_of of_kind said all_digits hex_at
 capital = refl
 
 -- 06 and a carriage return are no frame
-carriage : frame_of (48 ∷ 54 ∷ 13 ∷ []) ≡ NotAFrame
-unfolding frame_of framed all_digits hex_at
+carriage : frame_of (48 ∷ 54 ∷ 13 ∷ []) ≡ None
+unfolding frame_of of_kind said all_digits hex_at
 carriage = refl
 
 -- 0713: number 19
-refused : reply_digits (reply.Refused 7 19) ≡ 48 ∷ 55 ∷ 49 ∷ 51 ∷ []
+refused : reply_digits (reply.Refused Pick (Refusal NoMeeting)) ≡ 48 ∷ 55 ∷ 49 ∷ 51 ∷ []
 unfolding reply_digits digits
 refused = refl
 

@@ -1,9 +1,10 @@
 // The frame that a line is.
-ghost use Rattle.std.specs.Prelude.{◌≡◌, ◌+◌, ◌≤◌, length};
+ghost use Rattle.std.specs.Prelude.{◌≡◌, ◌+◌, ◌≤◌, Some, length};
 ghost use Rattle.unhex.specs.Digits.{lows_in};
 ghost use Rattle.wire.specs.Frame as spec;
 ghost use Rattle.wire.specs.Known as known;
 
+use crate::kind::Kind;
 use plain::call::{Call, Coordinates, Fix};
 
 // The digits of a frame of kind 00, a fresh board; REPORT has those of 01, OWN_SHIP those of 03.
@@ -32,8 +33,6 @@ pub enum Frame {
     Mean,
     Pick,
     Total,
-    // The line is no frame.
-    NotAFrame,
 }
 
 // The float of the 16 digits of s from at on, 0 where s ends before; every NaN pattern is a NaN.
@@ -76,117 +75,45 @@ fn fix_at(s: &[u8], at: usize) -> Fix
     }
 }
 
-// A frame of kind 00.
-fn fresh_of(s: &[u8]) -> Frame
-    ensures { result ≡ spec.framed lows_in 0 s.now }
+// The frame that a line of a kind is, where it has as many digits as the kind.
+fn of_kind(kind: Kind, s: &[u8]) -> Option<Frame>
+    ensures { result ≡ spec.of_kind lows_in (Some kind) s.now }
 {
-    if s.len() == FRESH {
-        Frame::Fresh(float_at(s, 2))
-    } else {
-        Frame::NotAFrame
+    if s.len() != kind.digits() {
+        return None;
     }
-}
-
-// A frame of kind 01.
-fn report_of(s: &[u8]) -> Frame
-    ensures { result ≡ spec.framed lows_in 1 s.now }
-{
-    if s.len() == REPORT {
-        Frame::Told(Call::Report(identity(s), fix_at(s, 6)))
-    } else {
-        Frame::NotAFrame
-    }
-}
-
-// A frame of kind 02.
-fn withdraw_of(s: &[u8]) -> Frame
-    ensures { result ≡ spec.framed lows_in 2 s.now }
-{
-    if s.len() == NAMED {
-        Frame::Told(Call::Withdraw(identity(s)))
-    } else {
-        Frame::NotAFrame
-    }
-}
-
-// A frame of kind 03.
-fn own_ship_of(s: &[u8]) -> Frame
-    ensures { result ≡ spec.framed lows_in 3 s.now }
-{
-    if s.len() == OWN_SHIP {
-        Frame::Told(Call::OwnShip(fix_at(s, 2)))
-    } else {
-        Frame::NotAFrame
-    }
-}
-
-// A frame of kind 04.
-fn track_of(s: &[u8]) -> Frame
-    ensures { result ≡ spec.framed lows_in 4 s.now }
-{
-    if s.len() == MOST_FRAME_DIGITS {
-        Frame::Told(Call::Track(coordinates_at(s, 2), coordinates_at(s, 50)))
-    } else {
-        Frame::NotAFrame
-    }
-}
-
-// A frame of kind 05.
-fn solve_of(s: &[u8]) -> Frame
-    ensures { result ≡ spec.framed lows_in 5 s.now }
-{
-    if s.len() == NAMED {
-        Frame::Told(Call::Solve(identity(s)))
-    } else {
-        Frame::NotAFrame
-    }
-}
-
-// The given frame where the line is a kind alone, two digits; else no frame.
-fn asked(s: &[u8], frame: Frame) -> Frame
-    ensures { result ≡ spec.sized 2 s.now frame }
-{
-    if s.len() == ASKED {
-        frame
-    } else {
-        Frame::NotAFrame
-    }
+    Some(match kind {
+        Kind::Fresh => Frame::Fresh(float_at(s, 2)),
+        Kind::Report => Frame::Told(Call::Report(identity(s), fix_at(s, 6))),
+        Kind::Withdraw => Frame::Told(Call::Withdraw(identity(s))),
+        Kind::OwnShip => Frame::Told(Call::OwnShip(fix_at(s, 2))),
+        Kind::Track => Frame::Told(Call::Track(coordinates_at(s, 2), coordinates_at(s, 50))),
+        Kind::Solve => Frame::Told(Call::Solve(identity(s))),
+        Kind::Mean => Frame::Mean,
+        Kind::Pick => Frame::Pick,
+        Kind::Total => Frame::Total,
+    })
 }
 
 // The frame that a line without its newline is, for who knows by `digits` whether it is digits alone: where it is not, and is said to be, bytes count by their low bits.
-pub fn read_known(s: &[u8], digits: bool) -> Frame
+pub fn read_known(s: &[u8], digits: bool) -> Option<Frame>
     ensures value { result ≡ known.frame_known digits s.now }
     ensures unchanged { s.exit.now ≡ s.entry.now }
 {
-    if !digits {
-        return Frame::NotAFrame;
-    }
     // No kind is that short: an empty line, the shortest of all, need not be looked at.
-    if s.len() < ASKED {
-        return Frame::NotAFrame;
+    if !digits || s.len() < ASKED {
+        return None;
     }
-    let kind = hex_digits::two_at(s, 0);
-    match kind {
-        0 => fresh_of(s),
-        1 => report_of(s),
-        2 => withdraw_of(s),
-        3 => own_ship_of(s),
-        4 => track_of(s),
-        5 => solve_of(s),
-        6 => asked(s, Frame::Mean),
-        7 => asked(s, Frame::Pick),
-        8 => asked(s, Frame::Total),
-        _ => Frame::NotAFrame,
-    }
+    of_kind(Kind::of_number(hex_digits::two_at(s, 0))?, s)
 }
 
 // The frame that a line without its newline is.
-pub fn read(s: &[u8]) -> Frame
+pub fn read(s: &[u8]) -> Option<Frame>
     ensures value { result ≡ spec.frame_of s.now }
     ensures unchanged { s.exit.now ≡ s.entry.now }
 {
     if s.len() > MOST_FRAME_DIGITS {
-        return Frame::NotAFrame;
+        return None;
     }
     read_known(s, hex_digits::all_digits(s))
 }

@@ -2,4 +2,5 @@
 #![tactic(auto)]
 
 pub mod frame;
+pub mod kind;
 pub mod reply;

@@ -5,7 +5,10 @@ ghost use Rattle.hex_digits.specs.Write.{Put, Wrote};
 ghost use Rattle.arcs.specs.Side.{side_number};
 ghost use Rattle.wire.specs.Reply as spec;
 
+use crate::kind::Kind;
 use arcs::Side;
+use means::NoMean;
+use plain::call::Refusal;
 use plain::line::Line;
 use vectors::vec3::Vec3;
 use walks::Outcome;
@@ -19,13 +22,32 @@ const NO_FRAME: u8 = 1;
 // The digits of the longest reply, a line's.
 pub const MOST_REPLY_DIGITS: usize = 114;
 
+// Why a frame is refused: a question was answered by no, or there is no mean.
+#[derive(Clone, Copy)]
+pub enum Reason {
+    Refusal(Refusal),
+    NoMean(NoMean),
+}
+
+impl Reason {
+    // Document 01's number of the refusal.
+    pub fn number(self) -> u8
+        ensures { result ≡ spec.reason_number self }
+    {
+        match self {
+            Reason::Refusal(refusal) => refusal.number(),
+            Reason::NoMean(why) => why.number(),
+        }
+    }
+}
+
 // A reply by value.
 #[derive(Clone, Copy)]
 pub enum Reply {
     // A kind that is done and hands out nothing.
-    Done(u8),
-    // A kind and the number of its refusal.
-    Refused(u8, u8),
+    Done(Kind),
+    // A kind, and why it is refused.
+    Refused(Kind, Reason),
     Solved(Line),
     Mean(Vec3),
     Pick(u16),
@@ -73,17 +95,13 @@ fn put_line(out: &mut [u8], at: usize, line: Line) -> usize
     requires { at + 110 ≤ length out.old }
     ensures { Wrote out.old at 110 (spec.line_digits line) out.new result }
 {
-    let side = line.side;
-    let closest = line.closest;
-    let meeting = line.meeting;
-    let longest = line.longest;
     let a = put_float(out, at, line.distance);
     let b = put_float(out, a, line.bearing);
-    let c = put_side(out, b, side);
+    let c = put_side(out, b, line.side);
     let d = put_float(out, c, line.offset);
-    let e = put_outcome(out, d, closest);
-    let f = put_outcome(out, e, meeting);
-    put_outcome(out, f, longest)
+    let e = put_outcome(out, d, line.closest);
+    let f = put_outcome(out, e, line.meeting);
+    put_outcome(out, f, line.longest)
 }
 
 // The three parts of a position: 48 digits.
@@ -117,22 +135,22 @@ fn write(out: &mut [u8], at: usize, reply: Reply) -> usize
     ensures { Wrote out.old at (length (spec.reply_digits reply)) (spec.reply_digits reply) out.new result }
 {
     match reply {
-        Reply::Done(kind) => put_two(out, at, kind, 0),
-        Reply::Refused(kind, number) => put_two(out, at, kind, number),
+        Reply::Done(kind) => put_two(out, at, kind.number(), 0),
+        Reply::Refused(kind, why) => put_two(out, at, kind.number(), why.number()),
         Reply::Solved(line) => {
-            let next = put_two(out, at, 5, 0);
+            let next = put_two(out, at, Kind::Solve.number(), 0);
             put_line(out, next, line)
         }
         Reply::Mean(p) => {
-            let next = put_two(out, at, 6, 0);
+            let next = put_two(out, at, Kind::Mean.number(), 0);
             put_position(out, next, p)
         }
         Reply::Pick(identity) => {
-            let next = put_two(out, at, 7, 0);
+            let next = put_two(out, at, Kind::Pick.number(), 0);
             hex_digits::put_number(out, next, identity as u64, 4)
         }
         Reply::Total(total) => {
-            let next = put_two(out, at, 8, 0);
+            let next = put_two(out, at, Kind::Total.number(), 0);
             hex_digits::put_number(out, next, total as u64, 8)
         }
         Reply::NotAFrame => put_two(out, at, NO_KIND, NO_FRAME),
@@ -143,10 +161,7 @@ fn write(out: &mut [u8], at: usize, reply: Reply) -> usize
 pub fn put(out: &mut [u8], at: usize, reply: Reply) -> usize
     ensures { Put out.old at (spec.reply_digits reply) out.new result }
 {
-    if at > out.len() {
-        return at;
-    }
-    if size(reply) > out.len() - at {
+    if at > out.len() || size(reply) > out.len() - at {
         return at;
     }
     write(out, at, reply)

@@ -1,29 +1,25 @@
--- `joined` meets its contract.
-use Prim.Native.Nat.{◌+◌}
-use mathlib.Core.Path.{◌≡◌, ◌∙◌}
-use native.Mathlib.Numerals.{add-one}
+-- What has come is copied after the first n bytes, as far as a line is kept.
+use borrow.Author.Rules.{rules}
+use Prim.Native.Nat.{ℕ, ◌+◌, ◌-◌}
+use mathlib.Core.List.{List, ◌++◌}
+use mathlib.Core.Path.{◌≡◌, refl, sym, ap, ◌∙◌}
 use native.Mathlib.Omega.{arith}
-use lib.ListN.{length}
-use lib.Seq.{paste-suc, length-paste}
-use Rattle.frames.specs.Line.{least}
-use Rattle.frames.proofs.Spans.{least-is, kept-text}
+use lib.ListN.{length, take}
+use lib.Seq.{take_all, length-take-le}
+use Rattle.std.proofs.lemmas.List.Edits.{length-paste, take-paste}
+use Rattle.std.proofs.lemmas.Slice.{put_mid-paste}
+use Rattle.frames.specs.Line.{kept, least}
+use Rattle.frames.proofs.Spans.{kept-text}
 use Rattle.frames.proofs.line.joined.Goals as goal
-
-pub loop-i-preserved : goal.loop-i-preserved
-loop-i-preserved c =
-    let l = c.loop-i in
-    let a = c.args in
-    let e = c.kept_of.ensures ∙ least-is (a.n + length a.part.now) in
-    (omega arith, rw (add-one, l.invariant.1) (paste-suc a.line a.n a.part.now l.i 0 (omega arith) (omega arith)))
 
 pub returns : goal.returns
 returns c =
-    let l = c.loop-i in
     let a = c.args in
-    let e = c.kept_of.ensures ∙ least-is (a.n + length a.part.now) in
-    let all : a.n + l.i ≡ least (a.n + length a.part.now) = omega (arith, c.kept_of.ensures) in
-    rw l.invariant.1
-    (record {
-      length_is = omega (arith, length-paste a.line a.n a.part.now l.i (omega arith) (omega arith));
-      text = kept-text a.line a.n a.part.now l.i (omega arith) all;
-    })
+    let m : ℕ = c.kept_of-m.result - a.n in
+    let more : List ℕ = take m a.part.now in
+    let l : length a.line ≡ kept = search rules in
+    let e : a.n + m ≡ least (a.n + length a.part.now) = omega (arith, c.kept_of-m.ensures) in
+    let h : length more ≡ m = length-take-le m a.part.now (omega arith) in
+    let w = take-paste a.line a.n more m (omega arith) (omega arith) ∙ ap (λ (t : List ℕ). take a.n a.line ++ t) (take_all m more (omega arith)) in
+    rw (put_mid-paste a.n m a.line c.copy_from_slice.new.self more m c.copy_from_slice.ensures.after refl (sym h))
+    (record { length_is = length-paste a.line a.n more m (omega arith) (omega arith) ∙ l; text = kept-text a.line a.part.now _ a.n m (omega arith) e w })

@@ -3,8 +3,8 @@ use native.Mathlib.Omega.{arith}
 use Rattle.frames.proofs.Feeds.{used-within, feeding-then}
 use Rattle.frames.proofs.stream.feed.Goals as goal
 
-pub overflow_add-used : goal.overflow_add-used
-overflow_add-used c =
+pub overflow_add-result : goal.overflow_add-result
+overflow_add-result c =
     omega (arith, c.well_formed.1.0.0, used-within c.go_on-first.ensures c.lines-rest.ensures)
 
 pub returns-clause-feeding : goal.returns-clause-feeding

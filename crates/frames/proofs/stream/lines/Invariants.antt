@@ -3,17 +3,18 @@ use mathlib.Core.List.{[]}
 use Prim.Native.Nat.{◌-◌}
 use mathlib.Core.Path.{◌≡◌}
 use lib.ListN.{length}
-use Rattle.board.specs.Glance.{Under}
 use Rattle.sessions.specs.Session.{plain_of}
-use Rattle.sessions.specs.Quick.{session_of}
+use Rattle.sessions.specs.Quick.{session_of, Standing}
 use Rattle.frames.proofs.Turns.{Passed}
 use Rattle.plain.specs.Targets.{most_targets}
 use Rattle.frames.proofs.stream.lines.Given as goal
 
 abbrev pub invariant-loop-i : goal.invariant-loop-i
-invariant-loop-i l = Under l.setting l.ids l.entries
-    × Passed (record { board = plain_of (session_of l.initial.started l.initial.setting l.initial.entries); part = [] }) l.xs l.initial.page l.page (session_of l.started l.setting l.entries) [] l.at l.i
-    × (length l.ids ≡ most_targets)
+invariant-loop-i l = record {
+  stands : Standing l.setting l.ids l.entries;
+  passed : Passed (record { board = plain_of (session_of l.initial.setting l.initial.entries); part = [] }) l.xs l.initial.page l.page (session_of l.setting l.entries) [] l.at l.i;
+  long : length l.ids ≡ most_targets;
+}
 
 abbrev pub decreases-loop-i : goal.decreases-loop-i
 decreases-loop-i l = length l.xs - l.i

@@ -2,12 +2,14 @@
 use native.Mathlib.Omega.{arith}
 use Rattle.hex_digits.proofs.Write.{put-stays, put-fits}
 use Rattle.wire.proofs.reply.put.Goals as goal
+use Rattle.wire.proofs.reply.put.Goals.{then-at-out-via-then-at-out, then-at-out-via-else-at-out+then-size-out}
 
 pub returns-then-at-out : goal.returns-then-at-out
-returns-then-at-out c = put-stays (omega (arith, c.if-at-out.true))
-
-pub returns-then-size-out : goal.returns-then-size-out
-returns-then-size-out c = put-stays (omega (arith, c.if-size-out.true, c.size.ensures))
+returns-then-at-out c =
+    elim c.then-at-out.branch [
+      | then-at-out-via-then-at-out w ↦ put-stays (omega arith)
+      | then-at-out-via-else-at-out+then-size-out w ↦ put-stays (omega (arith, w.size.ensures))
+    ]
 
 pub returns : goal.returns
 returns c =

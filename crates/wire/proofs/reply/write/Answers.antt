@@ -47,35 +47,35 @@ put_two-requires-in-NotAFrame c =
 pub returns-in-Done : goal.returns-in-Done
 unfolding reply_digits
 returns-in-Done c =
-    as-length c.put_two.ensures (sym (ap reply_digits c.in-Done.is))
+    as-length (rw c.number.ensures at c.put_two.ensures) (sym (ap reply_digits c.in-Done.is))
 
 pub returns-in-Refused : goal.returns-in-Refused
 unfolding reply_digits
 returns-in-Refused c =
-    as-length c.put_two-in-Refused.ensures (sym (ap reply_digits c.in-Refused.is))
+    as-length (rw (c.number-in-Refused.ensures, c.number-in-Refused-2.ensures) at c.put_two-in-Refused.ensures) (sym (ap reply_digits c.in-Refused.is))
 
 pub returns-in-Solved : goal.returns-in-Solved
 unfolding reply_digits
 returns-in-Solved c =
-    as-length (then c.put_two-next.ensures c.put_line.ensures) (sym (ap reply_digits c.in-Solved.is))
+    as-length (then (rw c.number-in-Solved.ensures at c.put_two-next.ensures) c.put_line.ensures) (sym (ap reply_digits c.in-Solved.is))
 
 pub returns-in-Mean : goal.returns-in-Mean
 unfolding reply_digits
 returns-in-Mean c =
-    as-length (then c.put_two-next-in-Mean.ensures c.put_position.ensures) (sym (ap reply_digits c.in-Mean.is))
+    as-length (then (rw c.number-in-Mean.ensures at c.put_two-next-in-Mean.ensures) c.put_position.ensures) (sym (ap reply_digits c.in-Mean.is))
 
 pub returns-in-Pick : goal.returns-in-Pick
 unfolding reply_digits
 returns-in-Pick c =
     let e = c.in-Pick.is in
-    let w = more 4 _ c.put_two-next-in-Pick.ensures c.put_number.ensures (omega (arith, c.requires, sized _ _ e)) in
+    let w = more 4 _ (rw c.number-in-Pick.ensures at c.put_two-next-in-Pick.ensures) c.put_number.ensures (omega (arith, c.requires, sized _ _ e)) in
     as-length w (sym (ap reply_digits e))
 
 pub returns-in-Total : goal.returns-in-Total
 unfolding reply_digits
 returns-in-Total c =
     let e = c.in-Total.is in
-    let w = more 8 _ c.put_two-next-in-Total.ensures c.put_number-in-Total.ensures (omega (arith, c.requires, sized _ _ e)) in
+    let w = more 8 _ (rw c.number-in-Total.ensures at c.put_two-next-in-Total.ensures) c.put_number-in-Total.ensures (omega (arith, c.requires, sized _ _ e)) in
     as-length w (sym (ap reply_digits e))
 
 pub returns-in-NotAFrame : goal.returns-in-NotAFrame
