@@ -2,7 +2,7 @@
 use crate::inputs::{HELD, coordinates, fix, identity};
 use board::board::{fresh, own_ship, refuses, report, solve, track, withdraw};
 use jord::positions::NVector;
-use means::Mean;
+use means::NoMean;
 use plain::asking::Choice;
 use plain::call::Answer;
 use plain::state::{Answered, Board};
@@ -60,11 +60,10 @@ fn of_answer(answer: Answer) -> u64 {
 }
 
 // The bits of the position's x, or the refusal's number.
-fn of_mean(mean: Mean) -> u64 {
+fn of_mean(mean: Result<NVector, NoMean>) -> u64 {
     match mean {
-        Mean::Position(p) => of_position(p),
-        Mean::Empty => mean.number() as u64,
-        Mean::Antipodal => mean.number() as u64,
+        Ok(p) => of_position(p),
+        Err(e) => e.number() as u64,
     }
 }
 

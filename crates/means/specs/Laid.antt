@@ -6,8 +6,7 @@ use Rattle.vectors.specs.Literal as literal
 use Rattle.vectors.specs.Vec3 as vec3
 use Rattle.jord.specs.Positions.{nvector_new}
 use Rattle.jord.specs.declared.positions.NVector.{NVector}
-use Rattle.means.specs.Mean.{mean_of}
-use Rattle.means.specs.declared.Mean.{Mean}
+use Rattle.means.specs.Mean.{Mean, mean_of}
 use Rattle.means.specs.declared.columns.Places.{Places}
 
 -- g i, g (i + 1) and so on, k of them

@@ -1,5 +1,5 @@
 -- `mean_position` and `triangle_mean_position` of sphere.rs, over lists of positions, and the positions that coordinates stand for. Definitions only.
-use Rattle.std.specs.Prelude.{ℕ, Bool, false, cond, ◌||◌, List, [], ◌∷◌, eqb, Float}
+use Rattle.std.specs.Prelude.{ℕ, Bool, false, cond, ◌||◌, List, [], ◌∷◌, Result, Ok, Err, eqb, Float}
 use Rattle.std.specs.Float.Ieee as Ieee
 use Rattle.patterns.specs.Operators.{◌⊕◌}
 use Rattle.vectors.specs.Vec3 as vec3
@@ -7,14 +7,18 @@ use Rattle.jord.specs.Positions.{nvector_new, as_vec3, antipode, is_antipode_of,
 use Rattle.vectors.specs.Zero.{NoMinusZero, Held}
 use Rattle.vectors.specs.declared.vec3.Vec3.{Vec3}
 use Rattle.jord.specs.declared.positions.NVector.{NVector}
-use Rattle.means.specs.declared.Mean.{Mean}
-use Rattle.means.specs.declared.Mean.TheVariants.{Position, Empty, Antipodal}
+use Rattle.means.specs.declared.NoMean.{NoMean}
+use Rattle.means.specs.declared.NoMean.TheVariants.{Empty, Antipodal}
+
+-- a mean position, or why there is none
+abbrev pub Mean : Type 0
+Mean = Result NVector NoMean
 
 -- the number of an answer; 0 is done
 abbrev pub number_of : Mean → ℕ
-number_of (Position p) = 0
-number_of Empty = 16
-number_of Antipodal = 17
+number_of (Ok p) = 0
+number_of (Err Empty) = 16
+number_of (Err Antipodal) = 17
 
 -- ---- lists
 
@@ -61,12 +65,12 @@ mean_from p (q ∷ l) = nvector_new (vec3_mean (p ∷ q ∷ l))
 
 -- "Mean: is the list non-empty? 16. Is no entry equal, component by component, to the negation of an entry, itself included? 17"
 abbrev pub mean_of : List NVector → Mean
-mean_of [] = Empty
-mean_of (p ∷ l) = cond (contains_antipodal (p ∷ l)) Antipodal (Position (mean_from p l))
+mean_of [] = Err Empty
+mean_of (p ∷ l) = cond (contains_antipodal (p ∷ l)) (Err Antipodal) (Ok (mean_from p l))
 
 -- the mean of n positions, none the antipode of one, by the last of them and the sums
 abbrev pub mean_by : ℕ → NVector → Vec3 → Mean
-mean_by n last s = cond (eqb n 0) Empty (cond (eqb n 1) (Position last) (Position (nvector_new (along s))))
+mean_by n last s = cond (eqb n 0) (Err Empty) (cond (eqb n 1) (Ok last) (Ok (nvector_new (along s))))
 
 -- p1.is_antipode_of(p2) || p1.is_antipode_of(p3) || p2.is_antipode_of(p3)
 abbrev pub antipodal_pair : NVector → NVector → NVector → Bool
@@ -76,7 +80,7 @@ antipodal_pair p1 p2 p3 = is_antipode_of p1 p2 || is_antipode_of p1 p3 || is_ant
 unfoldable pub triangle_mean_position : NVector → NVector → NVector → Mean
 unfolding vec3.new_unit Ieee.add Ieee.eq
 triangle_mean_position p1 p2 p3 =
-    cond (antipodal_pair p1 p2 p3) Antipodal (Position (nvector_new (vec3_mean (p1 ∷ p2 ∷ p3 ∷ []))))
+    cond (antipodal_pair p1 p2 p3) (Err Antipodal) (Ok (nvector_new (vec3_mean (p1 ∷ p2 ∷ p3 ∷ []))))
 
 -- ---- coordinates
 

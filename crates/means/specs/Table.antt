@@ -1,11 +1,10 @@
 -- Rows of document 01's table that concern this crate.
-use Rattle.std.specs.Prelude.{◌≡◌, refl, [], ◌∷◌}
+use Rattle.std.specs.Prelude.{◌≡◌, refl, [], ◌∷◌, Ok}
 use Rattle.std.specs.Float.Ieee.{of_bits}
 use Rattle.vectors.specs.Literal.{zero, one, minus_one}
 use Rattle.vectors.specs.Vec3.{UNIT_X, UNIT_Y, NEG_UNIT_X}
 use Rattle.jord.specs.Positions.{nvector_new}
 use Rattle.means.specs.Mean.{mean_position, triangle_mean_position, number_of}
-use Rattle.means.specs.declared.Mean.TheVariants.{Position}
 
 -- "Mean: none 16; X, -X 17; zero vector 17; X alone X"
 pub mean_of_none : number_of (mean_position []) ≡ 16
@@ -20,12 +19,12 @@ pub mean_of_zero : number_of (mean_position (zero ∷ zero ∷ zero ∷ [])) ≡
 unfolding mean_position of_bits
 mean_of_zero = refl
 
-pub mean_of_one : mean_position (one ∷ zero ∷ zero ∷ []) ≡ Position (nvector_new UNIT_X)
+pub mean_of_one : mean_position (one ∷ zero ∷ zero ∷ []) ≡ Ok (nvector_new UNIT_X)
 unfolding mean_position of_bits
 mean_of_one = refl
 
 -- "one or two left over at the end count for nothing"
-pub mean-left-over : mean_position (one ∷ zero ∷ zero ∷ minus_one ∷ zero ∷ []) ≡ Position (nvector_new UNIT_X)
+pub mean-left-over : mean_position (one ∷ zero ∷ zero ∷ minus_one ∷ zero ∷ []) ≡ Ok (nvector_new UNIT_X)
 unfolding mean_position of_bits
 mean-left-over = refl
 

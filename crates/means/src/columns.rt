@@ -5,7 +5,7 @@ ghost use Rattle.means.specs.Mean as means;
 ghost use Rattle.means.specs.Laid as spec;
 
 use crate::lent::mean_by;
-use crate::{Mean, plus};
+use crate::{NoMean, plus};
 use jord::positions::NVector;
 use vectors::vec3::Vec3;
 
@@ -21,7 +21,7 @@ pub(crate) struct Places {
 }
 
 // The mean of the first n positions, or of all where there are fewer: all x, then all y, then all z. One or two numbers left over at the end count for nothing.
-pub fn mean_of_columns(cs: &[f64], n: usize) -> Mean
+pub fn mean_of_columns(cs: &[f64], n: usize) -> Result<NVector, NoMean>
     ensures mean { result ≡ spec.column_mean cs.now n }
     ensures unchanged { cs.exit.now ≡ cs.entry.now }
 {
@@ -41,15 +41,15 @@ pub fn mean_of_columns(cs: &[f64], n: usize) -> Mean
 }
 
 // The mean of the positions at these places.
-pub(crate) fn mean_laid(cs: &[f64], ps: Places) -> Mean
+pub(crate) fn mean_laid(cs: &[f64], ps: Places) -> Result<NVector, NoMean>
     requires { spec.Within cs.now ps }
     ensures { result ≡ means.mean_of (spec.laid cs.now ps) }
 {
     if ps.n == 0 {
-        return Mean::Empty;
+        return Err(NoMean::Empty);
     }
     if contains_antipodal(cs, ps) {
-        return Mean::Antipodal;
+        return Err(NoMean::Antipodal);
     }
     mean_by(ps.n, nth(cs, ps, 0), sum(cs, ps))
 }

@@ -2,13 +2,13 @@
 ghost use Rattle.std.specs.Prelude.{◌≡◌};
 ghost use Rattle.means.specs.Mean as spec;
 
-use crate::{Mean, plus};
+use crate::{NoMean, plus};
 use jord::positions::NVector;
 use vectors::vec3::Vec3;
 
 // The mean of lent positions, the unit vector along their sum; one is its own mean. Empty (16) of none, Antipodal (17) where one is the negation of another or of itself.
 // Two loops in one function: for each entry the inner one looks for its negation among all.
-pub fn mean_position_of(positions: &[NVector]) -> Mean
+pub fn mean_position_of(positions: &[NVector]) -> Result<NVector, NoMean>
     ensures mean { result ≡ spec.mean_of positions.now }
     ensures unchanged { positions.exit.now ≡ positions.entry.now }
 {
@@ -23,7 +23,7 @@ pub fn mean_position_of(positions: &[NVector]) -> Mean
         let mut j = 0;
         while j < n {
             if positions[j].eq(a) {
-                return Mean::Antipodal;
+                return Err(NoMean::Antipodal);
             }
             j += 1;
         }
@@ -34,14 +34,14 @@ pub fn mean_position_of(positions: &[NVector]) -> Mean
 }
 
 // The mean of n positions, none the antipode of one, by the last of them and their sum.
-pub(crate) fn mean_by(n: usize, last: NVector, sum: Vec3) -> Mean
+pub(crate) fn mean_by(n: usize, last: NVector, sum: Vec3) -> Result<NVector, NoMean>
     ensures { result ≡ spec.mean_by n last sum }
 {
     if n == 0 {
-        return Mean::Empty;
+        return Err(NoMean::Empty);
     }
     if n == 1 {
-        return Mean::Position(last);
+        return Ok(last);
     }
-    Mean::Position(NVector::new(Vec3::new_unit(sum.x, sum.y, sum.z)))
+    Ok(NVector::new(Vec3::new_unit(sum.x, sum.y, sum.z)))
 }

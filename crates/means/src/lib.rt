@@ -1,7 +1,7 @@
 // Means of positions. A list is handed over as coordinates, three to a position; one or two left over at the end count for nothing.
 #![tactic(auto)]
 
-ghost use Rattle.std.specs.Prelude.{◌≡◌};
+ghost use Rattle.std.specs.Prelude.{◌≡◌, Err};
 ghost use Rattle.means.specs.Mean as spec;
 
 use crate::columns::{Places, mean_laid};
@@ -11,31 +11,26 @@ use vectors::vec3::Vec3;
 pub mod columns;
 pub mod lent;
 
-// The mean position, or why there is none.
+// Why there is no mean, by document 01's number.
 #[derive(Clone, Copy)]
-pub enum Mean {
-    Position(NVector),
+pub enum NoMean {
     // There is no entry.
-    Empty,
+    Empty = 16,
     // An entry is the negation of an entry, or of itself; of three positions, two are antipodes.
-    Antipodal,
+    Antipodal = 17,
 }
 
-impl Mean {
-    // Document 01's number of the answer, 0 where there is a mean.
+impl NoMean {
+    // Document 01's number of the answer.
     pub fn number(self) -> u8
-        ensures { result ≡ spec.number_of self }
+        ensures { result ≡ spec.number_of (Err self) }
     {
-        match self {
-            Mean::Position(_) => 0,
-            Mean::Empty => 16,
-            Mean::Antipodal => 17,
-        }
+        self as u8
     }
 }
 
 // The mean of positions, the unit vector along their sum; one is its own mean. Empty (16) of none, Antipodal (17) where one is the negation of another or of itself.
-pub fn mean_position(cs: &[f64]) -> Mean
+pub fn mean_position(cs: &[f64]) -> Result<NVector, NoMean>
     ensures mean { result ≡ spec.mean_position cs.now }
     ensures unchanged { cs.exit.now ≡ cs.entry.now }
 {
@@ -53,14 +48,14 @@ pub fn mean_position(cs: &[f64]) -> Mean
 }
 
 // The mean of three positions, the unit vector along their sum; Antipodal (17) where two are antipodes.
-pub fn triangle_mean_position(p1: NVector, p2: NVector, p3: NVector) -> Mean
+pub fn triangle_mean_position(p1: NVector, p2: NVector, p3: NVector) -> Result<NVector, NoMean>
     ensures { result ≡ spec.triangle_mean_position p1 p2 p3 }
 {
     if p1.is_antipode_of(p2) | p1.is_antipode_of(p3) | p2.is_antipode_of(p3) {
-        return Mean::Antipodal;
+        return Err(NoMean::Antipodal);
     }
     let s = plus(plus(plus(Vec3::ZERO, p1), p2), p3);
-    Mean::Position(NVector::new(Vec3::new_unit(s.x, s.y, s.z)))
+    Ok(NVector::new(Vec3::new_unit(s.x, s.y, s.z)))
 }
 
 // s with the parts of p added to its own.

@@ -3,8 +3,7 @@ use Rattle.std.specs.Prelude.{ℕ, ◌≤◌, min, Bool, false, cond, ◌↔◌,
 use mathlib.Core.List.{List, [], ◌∷◌, map, Memᴰ}
 use Rattle.std.proofs.Math.Option.{Option, some, none}
 use Rattle.jord.specs.declared.positions.NVector.{NVector}
-use Rattle.means.specs.Mean.{mean_of}
-use Rattle.means.specs.declared.Mean.{Mean}
+use Rattle.means.specs.Mean.{Mean, mean_of}
 use Rattle.walks.specs.declared.Outcome.{Outcome}
 use Rattle.walks.specs.declared.Outcome.TheVariants.{Found, ZeroDerivative, NotConverged, Negative, TooLong}
 use Rattle.plain.specs.declared.targets.Lined.{Lined}

@@ -29,10 +29,12 @@ fn put_position(f: u64, args: &mut Args, page: &mut Page) -> bool {
         0x85 => page.put(sphere_of(args).destination_position(args.nvector(), args.angle(), args.length())),
         0x87 => page.put(Sphere::position_on_great_circle(args.nvector(), args.nvector(), args.angle())),
         0x88 => page.put(
-            itold(Sphere::interpolated_position(args.nvector(), args.nvector(), args.float())),
+            Sphere::interpolated_position(args.nvector(), args.nvector(), args.float())
+                .map_err(|why| why.number()),
         ),
         0x89 => page.put(
-            crate::mean::told(triangle_mean_position(args.nvector(), args.nvector(), args.nvector())),
+            triangle_mean_position(args.nvector(), args.nvector(), args.nvector())
+                .map_err(|why| why.number()),
         ),
         0x8b => page.put(sphere_of(args).position_after(args.vehicle(), args.whole())),
         _ => return false,
@@ -56,11 +58,4 @@ fn put_arc(page: &mut Page, ma: MinorArc) {
 // The radii of a sphere, of the earth and of the moon.
 fn put_radii(page: &mut Page, s: Sphere) {
     page.put((s.radius(), Sphere::earth().radius(), Sphere::moon().radius()));
-}
-
-fn itold(m: spherical::interpolated::Interpolated) -> Result<jord::positions::NVector, u8> {
-    match m {
-        spherical::interpolated::Interpolated::Position(p) => Ok(p),
-        spherical::interpolated::Interpolated::Outside => Err(m.number()),
-    }
 }

@@ -1,5 +1,5 @@
 -- A session: a plain board, or none yet. What one frame makes of it, and what it is answered. Definitions only.
-use Rattle.std.specs.Prelude.{ℕ, cond, ◌≡◌}
+use Rattle.std.specs.Prelude.{ℕ, cond, ◌≡◌, Ok, Err}
 use Rattle.std.proofs.Math.Option.{Option, some, none}
 use Rattle.plain.specs.Asking.{mean, pick, choice_number, choice_identity}
 use Rattle.plain.specs.Board.{Plain, fresh, begins, answer, after}
@@ -11,9 +11,7 @@ use Rattle.plain.specs.declared.call.Answer.{Answer}
 use Rattle.plain.specs.declared.call.Answer.TheVariants as answered
 use Rattle.plain.specs.declared.call.Call.{Call}
 use Rattle.plain.specs.declared.call.Call.TheVariants.{Report, Withdraw, OwnShip, Track, Solve}
-use Rattle.means.specs.Mean as means
-use Rattle.means.specs.declared.Mean.{Mean}
-use Rattle.means.specs.declared.Mean.TheVariants.{Position, Empty, Antipodal}
+use Rattle.means.specs.Mean.{Mean, number_of}
 use Rattle.jord.specs.Positions.{as_vec3}
 use Rattle.wire.specs.declared.frame.Frame.{Frame}
 use Rattle.wire.specs.declared.frame.Frame.TheVariants as frame
@@ -40,9 +38,8 @@ told kind (answered.Refused q) = reply.Refused kind (answer_number (answered.Ref
 
 -- "06 three floats"
 unfoldable pub mean_told : Mean → Reply
-mean_told (Position p) = reply.Mean (as_vec3 p)
-mean_told Empty = reply.Refused 6 (means.number_of Empty)
-mean_told Antipodal = reply.Refused 6 (means.number_of Antipodal)
+mean_told (Ok p) = reply.Mean (as_vec3 p)
+mean_told (Err e) = reply.Refused 6 (number_of (Err e))
 
 -- "07 identity"
 unfoldable pub pick_told : Choice → Reply

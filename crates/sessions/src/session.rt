@@ -4,7 +4,8 @@ ghost use Rattle.std.proofs.Math.Option.{none};
 ghost use Rattle.sessions.specs.Session as spec;
 
 use board::board::{fresh, hear};
-use means::Mean;
+use jord::positions::NVector;
+use means::NoMean;
 use plain::asking::Choice;
 use plain::call::{Answer, Call};
 use plain::state::Board;
@@ -105,13 +106,12 @@ fn tell(s: Session, call: Call) -> Stepped
 }
 
 // The reply to a mean.
-fn mean_told(m: Mean) -> Reply
+fn mean_told(m: Result<NVector, NoMean>) -> Reply
     ensures { result ≡ spec.mean_told m }
 {
     match m {
-        Mean::Position(p) => Reply::Mean(p.as_vec3()),
-        Mean::Empty => Reply::Refused(6, m.number()),
-        Mean::Antipodal => Reply::Refused(6, m.number()),
+        Ok(p) => Reply::Mean(p.as_vec3()),
+        Err(e) => Reply::Refused(6, e.number()),
     }
 }
 

@@ -1,5 +1,5 @@
 -- sphere.rs: the public functions of `Sphere` over the ported types, but for the means; the times are those of crate walks, on the radius. Definitions only.
-use Rattle.std.specs.Prelude.{ℕ, Bool, cond, not, ◌&&◌, Float}
+use Rattle.std.specs.Prelude.{ℕ, Bool, cond, not, ◌&&◌, Ok, Err, Float}
 use Rattle.std.specs.Float.Ieee as Ieee
 use Rattle.std.specs.Float.{binary64}
 use Rattle.std.specs.Float.Ieee.{of_bits, le, lt, rem}
@@ -25,8 +25,7 @@ use Rattle.walks.specs.declared.Outcome.{Outcome}
 use Rattle.arcs.specs.declared.Side.{Side}
 use Rattle.arcs.specs.declared.great_circle.GreatCircle.{GreatCircle}
 use Rattle.arcs.specs.declared.minor_arc.MinorArc.{MinorArc}
-use Rattle.spherical.specs.declared.interpolated.Interpolated.{Interpolated}
-use Rattle.spherical.specs.declared.interpolated.Interpolated.TheVariants.{Position, Outside}
+use Rattle.spherical.specs.Interpolated.{Interpolated}
 use Rattle.spherical.specs.declared.sphere.Sphere.{Sphere}
 
 -- Sphere { radius }
@@ -159,7 +158,7 @@ is_fraction f = le zero f && le f one
 -- "is the fraction within 0.0 to 1.0? 18"
 unfoldable pub interpolated_position : NVector → NVector → Float → Interpolated
 unfolding le Ieee.eq
-interpolated_position p1 p2 f = cond (is_fraction f) (Position (nth_position p1 p2 f)) Outside
+interpolated_position p1 p2 f = cond (is_fraction f) (Ok (nth_position p1 p2 f)) (Err (record {}))
 
 -- ---- times, on the sphere's radius
 

@@ -1,5 +1,5 @@
 -- "Table to prove of the definitions, together": every row of document 01's table, in its words and order, as one statement; `table` of proofs/Together.antt proves it.
-use Rattle.std.specs.Prelude.{◌≡◌, true, false, [], ◌∷◌, pos, negsuc}
+use Rattle.std.specs.Prelude.{◌≡◌, true, false, [], ◌∷◌, pos, negsuc, Ok}
 use Rattle.std.specs.Float.{nan, fin}
 use Rattle.patterns.specs.Operators.{pi}
 use Rattle.roots.specs.Root.{sqrt}
@@ -19,8 +19,6 @@ use Rattle.means.specs.Mean.{mean_position, number_of}
 use Rattle.spherical.specs.Sphere as sphere
 use Rattle.spherical.specs.Sphere.{interpolated_position, time_to_cpa}
 use Rattle.arcs.specs.declared.Side.TheVariants.{Left, Right}
-use Rattle.spherical.specs.declared.interpolated.Interpolated.TheVariants as interpolation
-use Rattle.means.specs.declared.Mean.TheVariants.{Position}
 use Rattle.walks.specs.declared.Outcome.TheVariants.{ZeroDerivative}
 
 pub record Together : Type 0 where
@@ -42,10 +40,10 @@ pub record Together : Type 0 where
   pub mean_of_none : number_of (mean_position []) ≡ 16
   pub mean_of_opposites : number_of (mean_position (one ∷ zero ∷ zero ∷ minus_one ∷ zero ∷ zero ∷ [])) ≡ 17
   pub mean_of_zero : number_of (mean_position (zero ∷ zero ∷ zero ∷ [])) ≡ 17
-  pub mean_of_one : mean_position (one ∷ zero ∷ zero ∷ []) ≡ Position (nvector_new UNIT_X)
+  pub mean_of_one : mean_position (one ∷ zero ∷ zero ∷ []) ≡ Ok (nvector_new UNIT_X)
   -- "Fraction NaN 18; -0.0 the first end", whatever the two positions
   pub fraction_nan : (p1 p2 : NVector) → interpolated.number_of (interpolated_position p1 p2 nan) ≡ 18
-  pub fraction_minus_zero : (p1 p2 : NVector) → interpolated_position p1 p2 (fin true 0 (pos 0)) ≡ interpolation.Position p1
+  pub fraction_minus_zero : (p1 p2 : NVector) → interpolated_position p1 p2 (fin true 0 (pos 0)) ≡ Ok p1
   -- "Radius 1.0, both vehicles at X with bearing and speed zero: closest approach 12, count 1"
   pub at_rest : time_to_cpa (sphere.new (from_metres one)) (vehicle.new (nvector_new UNIT_X) angle.ZERO speed.ZERO)
       (vehicle.new (nvector_new UNIT_X) angle.ZERO speed.ZERO) ≡ ZeroDerivative 1

@@ -2,7 +2,7 @@
 ghost use Rattle.std.specs.Prelude.{◌≡◌};
 ghost use Rattle.spherical.specs.Sphere as spec;
 
-use crate::interpolated::Interpolated;
+use crate::interpolated::Outside;
 use arcs::great_circle::GreatCircle;
 use arcs::minor_arc::MinorArc;
 use arcs::{Side, base};
@@ -184,20 +184,20 @@ impl Sphere {
     }
 
     // The position at a fraction of the way from p1 to p2; Outside (18) where the fraction is not from 0.0 to 1.0.
-    pub fn interpolated_position(p1: NVector, p2: NVector, f: f64) -> Interpolated
+    pub fn interpolated_position(p1: NVector, p2: NVector, f: f64) -> Result<NVector, Outside>
         ensures { result ≡ spec.interpolated_position p1 p2 f }
     {
         if !((0.0 <= f) & (f <= 1.0)) {
-            return Interpolated::Outside;
+            return Err(Outside);
         }
         if f == 0.0 {
-            return Interpolated::Position(p1);
+            return Ok(p1);
         }
         if f == 1.0 {
-            return Interpolated::Position(p2);
+            return Ok(p2);
         }
         let a = Sphere::angle(p1, p2).mul(f);
-        Interpolated::Position(Sphere::position_on_great_circle(p1, p2, a))
+        Ok(Sphere::position_on_great_circle(p1, p2, a))
     }
 
     // On which side of the great circle from p1 to p2 the position p0 is.

@@ -7,7 +7,8 @@ ghost use Rattle.plain.specs.Targets.{most_targets};
 ghost use Rattle.targets.specs.Asking as spec;
 
 use crate::least;
-use means::Mean;
+use jord::positions::NVector;
+use means::NoMean;
 use means::columns::mean_of_columns;
 use plain::asking::Choice;
 use plain::call::Refusal;
@@ -34,7 +35,7 @@ pub fn total(board: Board) -> u32
 }
 
 // The mean position of all targets in rising identity.
-pub fn mean(board: Board) -> Mean
+pub fn mean(board: Board) -> Result<NVector, NoMean>
     ensures { result ≡ asked.mean (plain board) }
 {
     let targets = board.targets;

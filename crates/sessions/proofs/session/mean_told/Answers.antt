@@ -2,14 +2,10 @@
 use Rattle.sessions.specs.Session.{mean_told}
 use Rattle.sessions.proofs.session.mean_told.Goals as goal
 
-pub returns-in-Position : goal.returns-in-Position
+pub returns-in-Ok : goal.returns-in-Ok
 unfolding mean_told
-returns-in-Position c = rw (c.in-Position.is, c.as_vec3.ensures)
+returns-in-Ok c = rw (c.in-Ok.is, c.as_vec3.ensures)
 
-pub returns-in-Empty : goal.returns-in-Empty
+pub returns-in-Err : goal.returns-in-Err
 unfolding mean_told
-returns-in-Empty c = rw (c.number.ensures, c.in-Empty.is)
-
-pub returns-in-Antipodal : goal.returns-in-Antipodal
-unfolding mean_told
-returns-in-Antipodal c = rw (c.number-in-Antipodal.ensures, c.in-Antipodal.is)
+returns-in-Err c = rw (c.in-Err.is, c.number.ensures)
