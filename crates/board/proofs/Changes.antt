@@ -1,4 +1,5 @@
 -- A search of the entries, and the change of the array that each call makes: it stands for the plain board's targets after the call.
+use Rattle.std.specs.Prelude.{Option, Some, None, Result, Ok, Err, is_ok}
 use Prim.Native.Nat.{ℕ, suc, ◌+◌, ◌≤◌, ◌<◌}
 use native.Mathlib.Numerals.{add-one}
 use mathlib.Core.Bool.{true}
@@ -10,11 +11,6 @@ use borrow.Author.Tests.{lt-ltb, le-ltb, eq-eqb, ne_eqb}
 use Rattle.plain.specs.declared.targets.Held.{Held}
 use Rattle.plain.specs.declared.targets.Target.{Target}
 use Rattle.plain.specs.declared.targets.Targets.{Targets}
-use Rattle.plain.specs.declared.targets.Lined.TheVariants.{Bare}
-use Rattle.plain.specs.declared.targets.Found.{Found}
-use Rattle.plain.specs.declared.targets.Found.TheVariants.{Nothing, There}
-use Rattle.targets.specs.declared.Spot.{Spot}
-use Rattle.targets.specs.declared.Spot.TheVariants.{At, Before}
 use Rattle.targets.specs.declared.Sought.{Sought}
 use Rattle.targets.specs.declared.Change.{Change}
 use Rattle.targets.specs.declared.Change.TheVariants.{Stays, Removes, Sweeps}
@@ -23,16 +19,17 @@ use Rattle.plain.specs.declared.call.Coordinates.{Coordinates}
 use Rattle.plain.specs.declared.call.Fix.{Fix}
 use Rattle.plain.specs.declared.call.Call.{Call}
 use Rattle.plain.specs.declared.call.Call.TheVariants.{Report, Withdraw, OwnShip, Track, Solve}
-use Rattle.plain.specs.declared.call.Answer.{Answer}
 use Rattle.plain.specs.Targets.{most_targets, find, place, bared, bare_target, at_most, listed}
 use Rattle.targets.specs.Slots.{spot_in, spot_from}
-use Rattle.plain.specs.Call.{vehicle, named}
-use Rattle.plain.specs.Board.{answer, after, accepted, targets_after, put, swept, leaves, lined, with_line, own_after, track_after, raised}
+use Rattle.plain.specs.Call.{Answer, vehicle, named}
+use Rattle.plain.specs.Questions.{ask, identity_asked}
+use Rattle.plain.specs.Board.{Plain, answer, after, accepted, targets_after, put, swept, leaves, lined, with_line, own_after, track_after, raised}
 use Rattle.plain.specs.Code.{plain, cut}
 use Rattle.plain.specs.History.{accepts}
-use Rattle.board.specs.Change.{name_of, Seeks, RightAnswer, entries_after, count_after, changed, Within, placing, RightChange}
+use Rattle.board.specs.Change.{name_of, Seeks, answer_by, entries_after, count_after, changed, Within, placing, RightChange}
 use Rattle.targets.proofs.Arrays.{absent, held_below}
 use Rattle.targets.proofs.Slots.{stored_is, inserted-is, removed-is, removed-not, take-bared, counted_is, removed-fits, bared-fits, absent-fits}
+use Rattle.questions.proofs.Chains.{ask-fix, ask-ends}
 use Rattle.plain.proofs.Listed.{at-most-le, at-most-same}
 use Rattle.plain.proofs.Played.{heard-accepted}
 
@@ -48,15 +45,15 @@ module _ (x n : ℕ) (es : List Target) (i : ℕ) (fit : n ≤ length es) (h : s
   unfolding spot_from spot_in
   entry-below within b = h ∙ rw (next within, lt-ltb (get_or es i absent).identity x b, add-one)
 
-  pub entry-same : i < n → x ≤ (get_or es i absent).identity → x ≡ (get_or es i absent).identity → At i ≡ spot_from 0 x (take n es)
+  pub entry-same : i < n → x ≤ (get_or es i absent).identity → x ≡ (get_or es i absent).identity → Ok i ≡ spot_from 0 x (take n es)
   unfolding spot_from spot_in
   entry-same within b e = sym (h ∙ rw (next within, le-ltb (get_or es i absent).identity x b, eq-eqb x (get_or es i absent).identity e))
 
-  pub entry-above : i < n → x ≤ (get_or es i absent).identity → (x ≡ (get_or es i absent).identity → ⊥) → Before i ≡ spot_from 0 x (take n es)
+  pub entry-above : i < n → x ≤ (get_or es i absent).identity → (x ≡ (get_or es i absent).identity → ⊥) → Err i ≡ spot_from 0 x (take n es)
   unfolding spot_from spot_in
   entry-above within b e = sym (h ∙ rw (next within, le-ltb (get_or es i absent).identity x b, ne_eqb x (get_or es i absent).identity e))
 
-  pub entry-none : n ≤ i → Before i ≡ spot_from 0 x (take n es)
+  pub entry-none : n ≤ i → Err i ≡ spot_from 0 x (take n es)
   unfolding spot_from spot_in
   entry-none out =
       let e : drop i (take n es) ≡ [] = drop_of_length-le (take n es) {i = i} (rw (length-take-le n es) out) in
@@ -75,50 +72,50 @@ sweeps-is ts =
     ap (λ (k : ℕ). take k (map bare_target ts.entries)) (at-most-same (at_most ts.count) (at-most-le ts.count))
     ∙ take-bared (at_most ts.count) ts.entries
 
-placed : (i : ℕ) (h : Held) (s : Spot) (ts : Targets) → length ts.entries ≡ most_targets → s ≡ spot_from 0 i (listed ts)
+placed : (i : ℕ) (h : Held) (s : Result ℕ ℕ) (ts : Targets) → length ts.entries ≡ most_targets → s ≡ spot_from 0 i (listed ts)
     → Within (placing s (record { identity = i; held = h })) (at_most ts.count)
-    × (listed (changed (placing s (record { identity = i; held = h })) ts) ≡ take most_targets (place i (There h) (listed ts)))
+    × (listed (changed (placing s (record { identity = i; held = h })) ts) ≡ take most_targets (place i (Some h) (listed ts)))
 unfolding listed entries_after Within
-placed i h (At p) ts full q =
-    (held_below i (at_most ts.count) ts.entries p (sym q), stored_is ts i (at_most ts.count) full refl (At p) q p h refl)
-placed i h (Before p) ts full q = (tt, inserted-is ts i (at_most ts.count) full refl (Before p) q p h refl)
+placed i h (Ok p) ts full q =
+    (held_below i (at_most ts.count) ts.entries p (sym q), stored_is ts i (at_most ts.count) full refl (Ok p) q p h refl)
+placed i h (Err p) ts full q = (tt, inserted-is ts i (at_most ts.count) full refl (Err p) q p h refl)
 
-pub report-changes : (i : ℕ) (f : Fix) (a : Answer) (s : Spot) (x : Found)
-    → RightChange (Report i f) a s x (placing s (record { identity = i; held = record { report = vehicle f; line = Bare } }))
+pub report-changes : (i : ℕ) (f : Fix) (a : Answer) (s : Result ℕ ℕ) (x : Option Held)
+    → RightChange (Report i f) a s x (placing s (record { identity = i; held = record { report = vehicle f; line = None } }))
 unfolding RightChange targets_after put named swept leaves
-report-changes i f a s x ts full q e = placed i (record { report = vehicle f; line = Bare }) s ts full q
+report-changes i f a s x ts full q e = placed i (record { report = vehicle f; line = None }) s ts full q
 
-pub withdraw-removes : (i : ℕ) (a : Answer) (p : ℕ) (x : Found) → RightChange (Withdraw i) a (At p) x (Removes p)
+pub withdraw-removes : (i : ℕ) (a : Answer) (p : ℕ) (x : Option Held) → RightChange (Withdraw i) a (Ok p) x (Removes p)
 unfolding RightChange targets_after put named swept leaves listed entries_after Within
 withdraw-removes i a p x ts full q e =
-    (tt, removed-is ts i (at_most ts.count) full refl (At p) q p refl ∙ removed-fits i ts)
+    (tt, removed-is ts i (at_most ts.count) full refl (Ok p) q p refl ∙ removed-fits i ts)
 
-not_there : (i p : ℕ) (ts : Targets) → length ts.entries ≡ most_targets → Before p ≡ spot_from 0 i (listed ts) → listed ts ≡ place i Nothing (listed ts)
+not_there : (i p : ℕ) (ts : Targets) → length ts.entries ≡ most_targets → Err p ≡ spot_from 0 i (listed ts) → listed ts ≡ place i None (listed ts)
 unfolding listed
-not_there i p ts full q = removed-not ts i (at_most ts.count) full refl (Before p) q p refl
+not_there i p ts full q = removed-not ts i (at_most ts.count) full refl (Err p) q p refl
 
-pub withdraw-stays : (i : ℕ) (a : Answer) (p : ℕ) (x : Found) → RightChange (Withdraw i) a (Before p) x Stays
+pub withdraw-stays : (i : ℕ) (a : Answer) (p : ℕ) (x : Option Held) → RightChange (Withdraw i) a (Err p) x Stays
 unfolding RightChange targets_after put named swept leaves Within
 withdraw-stays i a p x ts full q e = (tt, stays-is ts ∙ not_there i p ts full q ∙ removed-fits i ts)
 
-pub own-sweeps : (f : Fix) (a : Answer) (s : Spot) (x : Found) → RightChange (OwnShip f) a s x Sweeps
+pub own-sweeps : (f : Fix) (a : Answer) (s : Result ℕ ℕ) (x : Option Held) → RightChange (OwnShip f) a s x Sweeps
 unfolding RightChange targets_after put named swept leaves Within
 own-sweeps f a s x ts full q e = (tt, sweeps-is ts ∙ bared-fits ts)
 
-pub track-sweeps : (b d : Coordinates) (a : Answer) (s : Spot) (x : Found) → RightChange (Track b d) a s x Sweeps
+pub track-sweeps : (b d : Coordinates) (a : Answer) (s : Result ℕ ℕ) (x : Option Held) → RightChange (Track b d) a s x Sweeps
 unfolding RightChange targets_after put named swept leaves Within
 track-sweeps b d a s x ts full q e = (tt, sweeps-is ts ∙ bared-fits ts)
 
-pub solve-stays : (i : ℕ) (a : Answer) (s : Spot) → RightChange (Solve i) a s Nothing Stays
+pub solve-stays : (i : ℕ) (a : Answer) (s : Result ℕ ℕ) → RightChange (Solve i) a s None Stays
 unfolding RightChange targets_after put named swept leaves Within
 solve-stays i a s ts full q e =
-    (tt, stays-is ts ∙ absent-fits i ts (sym e) ∙ ap (λ (y : Found). take most_targets (place i (lined a y) (listed ts))) e)
+    (tt, stays-is ts ∙ absent-fits i ts (sym e) ∙ ap (λ (y : Option Held). take most_targets (place i (lined a y) (listed ts))) e)
 
-pub solve-changes : (i : ℕ) (a : Answer) (s : Spot) (h : Held) → RightChange (Solve i) a s (There h) (placing s (record { identity = i; held = with_line a h }))
+pub solve-changes : (i : ℕ) (a : Answer) (s : Result ℕ ℕ) (h : Held) → RightChange (Solve i) a s (Some h) (placing s (record { identity = i; held = with_line a h }))
 unfolding RightChange targets_after put named swept leaves
 solve-changes i a s h ts full q e =
     let p = placed i (with_line a h) s ts full q in
-    (p.0, p.1 ∙ ap (λ (y : Found). take most_targets (place i (lined a y) (listed ts))) e)
+    (p.0, p.1 ∙ ap (λ (y : Option Held). take most_targets (place i (lined a y) (listed ts))) e)
 
 -- ---- a call of the code
 
@@ -129,14 +126,27 @@ unfolding listed
 sought-is ts n x y r k e f =
     (k.spot_is ∙ rw (e, f), k.found_is ∙ rw (e, f), e ∙ counted_is ts.entries ts.count k.length_is)
 
-pub answered-is : (b : Board) (c : Call) (a : Answer) (x : Found) (n : ℕ) → RightAnswer b.radius b.own b.track x n c a
+-- the questions put to the parts are those put to the plain board
+parts-answer : (p : Plain) (c : Call) → answer_by p.radius p.own p.track (find (name_of c) p.targets) (length p.targets) c ≡ answer p c
+unfolding answer
+parts-answer p (Report i f) = ap (ask (identity_asked i)) (ask-fix f _)
+parts-answer p (Withdraw i) = refl
+parts-answer p (OwnShip f) = ask-fix f (Ok None)
+parts-answer p (Track s e) = ask-ends s e (Ok None)
+parts-answer p (Solve i) = refl
+
+pub answered-is : (b : Board) (c : Call) (a : Answer) (x : Option Held) (n : ℕ) → a ≡ answer_by b.radius b.own b.track x n c
     → x ≡ find (name_of c) (listed b.targets) → n ≡ length (listed b.targets) → a ≡ answer (plain b) c
-unfolding RightAnswer plain
-answered-is b c a x n k e f = k (listed b.targets) b.total e f
+answered-is b c a x n k e f = k ∙ rw (e, f) (unfold plain in parts-answer (plain b) c)
+
+-- an answer is accepted where it is no error
+pub ok-accepted : (a : Answer) → accepts a ≡ is_ok a
+ok-accepted (Ok l) = refl
+ok-accepted (Err r) = refl
 
 -- one that is accepted
 
-module _ (b : Board) (c : Call) (a : Answer) (r : Change) (s : Spot) (x : Found) (full : length b.targets.entries ≡ most_targets)
+module _ (b : Board) (c : Call) (a : Answer) (r : Change) (s : Result ℕ ℕ) (x : Option Held) (full : length b.targets.entries ≡ most_targets)
     (q : s ≡ spot_from 0 (name_of c) (listed b.targets)) (e : x ≡ find (name_of c) (listed b.targets)) (k : RightChange c a s x r) where
   pub within-is : Within r (at_most b.targets.count)
   unfolding RightChange

@@ -1,22 +1,21 @@
 -- What a call makes of the parts that the code holds of a board: the questions put to them, and the change of the array of targets.
 -- Definitions only.
-use Rattle.std.specs.Prelude.{ℕ, ◌+◌, ◌-◌, ◌<◌, List, ◌∷◌, ◌++◌, map, ◌≡◌, Float, length, take, drop, set}
+use Rattle.std.specs.Prelude.{ℕ, ◌+◌, ◌-◌, ◌<◌, List, ◌∷◌, ◌++◌, map, ◌≡◌, Float, length, take, drop, set, Option, None, Result, Ok, Err}
+use Rattle.jord.specs.declared.vehicle.Vehicle.{Vehicle}
+use Rattle.plain.specs.declared.line.Ends.{Ends}
+use Rattle.plain.specs.declared.targets.Held.{Held}
 use Rattle.plain.specs.declared.targets.Target.{Target}
 use Rattle.plain.specs.declared.targets.Targets.{Targets}
-use Rattle.plain.specs.declared.targets.Found.{Found}
-use Rattle.targets.specs.declared.Spot.{Spot}
-use Rattle.targets.specs.declared.Spot.TheVariants.{At, Before}
 use Rattle.targets.specs.declared.Sought.{Sought}
 use Rattle.targets.specs.declared.Change.{Change}
 use Rattle.targets.specs.declared.Change.TheVariants.{Stays, Stores, Inserts, Removes, Sweeps}
-use Rattle.plain.specs.declared.state.Own.{Own}
-use Rattle.plain.specs.declared.state.Tracked.{Tracked}
 use Rattle.plain.specs.declared.call.Call.{Call}
 use Rattle.plain.specs.declared.call.Call.TheVariants.{Report, Withdraw, OwnShip, Track, Solve}
-use Rattle.plain.specs.declared.call.Answer.{Answer}
+use Rattle.plain.specs.Call.{Answer}
 use Rattle.plain.specs.Targets.{most_targets, find, bare_target, at_most, listed}
 use Rattle.targets.specs.Slots.{spot_from}
-use Rattle.plain.specs.Board.{answer, targets_after}
+use Rattle.plain.specs.Questions.{ask, identity_asked, fix_asked, ends_asked, held_asked, room_asked, see, solved}
+use Rattle.plain.specs.Board.{targets_after}
 
 -- the identity that a call names, or 0
 abbrev pub name_of : Call → ℕ
@@ -32,11 +31,13 @@ pub record Seeks (es : List Target) (n x : ℕ) (r : Sought) : Type 0 where
   pub spot_is : r.spot ≡ spot_from 0 x (take n es)
   pub found_is : r.found ≡ find x (take n es)
 
--- a is the answer to call c of every board with these parts, n targets, and x held under the identity that the call names
-unfoldable pub RightAnswer : Float → Own → Tracked → Found → ℕ → Call → Answer → Type 0
-RightAnswer r o t x n c a =
-    (l : List Target) (k : ℕ) → x ≡ find (name_of c) l → n ≡ length l
-    → a ≡ answer (record { radius = r; own = o; track = t; targets = l; total = k }) c
+-- the answer to a call of a board with these parts, where n targets stand and x is held under the identity that the call names
+abbrev pub answer_by : Float → Option Vehicle → Option Ends → Option Held → ℕ → Call → Answer
+answer_by r o t x n (Report i f) = ask (identity_asked i) (ask (fix_asked f) (ask (room_asked x n) (Ok None)))
+answer_by r o t x n (Withdraw i) = ask (identity_asked i) (ask (held_asked x) (Ok None))
+answer_by r o t x n (OwnShip f) = ask (fix_asked f) (Ok None)
+answer_by r o t x n (Track s e) = ask (ends_asked s e) (Ok None)
+answer_by r o t x n (Solve i) = ask (identity_asked i) (solved r (see x o t))
 
 -- ---- a change of the array
 
@@ -67,13 +68,13 @@ Within (Removes p) n = Unit {0}
 Within Sweeps n = Unit {0}
 
 -- a target stored where its identity stands, or inserted where it belongs
-abbrev pub placing : Spot → Target → Change
-placing (At p) t = Stores p t
-placing (Before p) t = Inserts p t
+abbrev pub placing : Result ℕ ℕ → Target → Change
+placing (Ok p) t = Stores p t
+placing (Err p) t = Inserts p t
 
 -- the change is right for all targets among which the identity that the call names has this spot and this is held under it: the array
 -- then stands for the plain board's targets after the call
-unfoldable pub RightChange : Call → Answer → Spot → Found → Change → Type 0
+unfoldable pub RightChange : Call → Answer → Result ℕ ℕ → Option Held → Change → Type 0
 RightChange c a s x r =
     (ts : Targets) → length ts.entries ≡ most_targets → s ≡ spot_from 0 (name_of c) (listed ts) → x ≡ find (name_of c) (listed ts)
     → Within r (at_most ts.count) × (listed (changed r ts) ≡ take most_targets (targets_after c a (listed ts)))

@@ -1,20 +1,19 @@
 // The calls of a board. The board goes in by value and comes back beside the answer.
-ghost use Rattle.std.specs.Prelude.{◌≡◌, not, ◌≤◌};
+ghost use Rattle.std.specs.Prelude.{◌≡◌, ◌≤◌};
 ghost use Rattle.plain.specs.Board as spec;
 ghost use Rattle.board.specs.Change as code;
 ghost use Rattle.plain.specs.Code.{plain, Answers, Demanded};
-ghost use Rattle.plain.specs.History.{accepts};
 ghost use Rattle.plain.specs.Targets.{most_targets};
 
+use jord::vehicle::Vehicle;
 use plain::call::{Answer, Call, Coordinates, Fix};
-use plain::state::{Answered, Board, Own, Tracked};
-use plain::targets::{Found, Held, Lined, MOST_TARGETS, Target, Targets};
+use plain::line::Ends;
+use plain::state::{Answered, Board};
+use plain::targets::{Held, MOST_TARGETS, Target, Targets};
 use questions::call::{ends, vehicle};
-use questions::line::raise;
-use questions::{
-    ask, ask_ends, ask_fix, held_asked, identity_asked, radius_asked, room_asked, see, solved,
-};
-use targets::{Change, Sought, Spot, bared, closed, empty, inserted, least};
+use questions::line::{raise, solve_line};
+use questions::{ends_asked, fix_asked, held_asked, identity_asked, radius_asked, room_asked, see};
+use targets::{Change, Sought, bared, closed, empty, inserted, least};
 
 // A fresh board: only the radius. Refused where the radius is not finite and above zero.
 pub fn fresh(radius: f64) -> Answered
@@ -22,14 +21,14 @@ pub fn fresh(radius: f64) -> Answered
 {
     let board = Board {
         radius,
-        own: Own::Nobody,
-        track: Tracked::Nowhere,
+        own: None,
+        track: None,
         targets: empty(),
         total: 0,
     };
     Answered {
         board,
-        answer: ask(radius_asked(radius), Answer::Done),
+        answer: radius_asked(radius).and(Ok(None)),
     }
 }
 
@@ -82,7 +81,7 @@ pub fn hear(board: Board, call: Call) -> Answered
     let spot = sought.spot;
     let found = sought.found;
     let answer = answer_of(board.radius, own, track, found, n, call);
-    if refuses(answer) {
+    if answer.is_err() {
         return Answered {
             board: Board {
                 radius: board.radius,
@@ -128,37 +127,43 @@ pub fn hear(board: Board, call: Call) -> Answered
     }
 }
 
-// Whether the answer is a refusal.
-pub fn refuses(answer: Answer) -> bool
-    ensures { result ≡ not (accepts answer) }
-{
-    match answer {
-        Answer::Done => false,
-        Answer::Solved(_) => false,
-        Answer::Refused(_) => true,
-    }
-}
-
 // The questions of a call in their order, put to the parts of a board: n targets stand, and this is held under the identity that is named.
 // The first no refuses it.
-fn answer_of(radius: f64, own: Own, track: Tracked, found: Found, n: usize, call: Call) -> Answer
-    ensures { code.RightAnswer radius own track found n call result }
+fn answer_of(
+    radius: f64,
+    own: Option<Vehicle>,
+    track: Option<Ends>,
+    found: Option<Held>,
+    n: usize,
+    call: Call,
+) -> Answer
+    ensures { result ≡ code.answer_by radius own track found n call }
 {
     match call {
-        Call::Report(identity, fix) => ask(
-            identity_asked(identity),
-            ask_fix(fix, ask(room_asked(found, n), Answer::Done)),
-        ),
-        Call::Withdraw(identity) => ask(
-            identity_asked(identity),
-            ask(held_asked(found), Answer::Done),
-        ),
-        Call::OwnShip(fix) => ask_fix(fix, Answer::Done),
-        Call::Track(start, end) => ask_ends(start, end, Answer::Done),
-        Call::Solve(identity) => ask(
-            identity_asked(identity),
-            solved(radius, see(found, own, track)),
-        ),
+        Call::Report(identity, fix) => {
+            identity_asked(identity)?;
+            fix_asked(fix)?;
+            room_asked(found, n)?;
+            Ok(None)
+        }
+        Call::Withdraw(identity) => {
+            identity_asked(identity)?;
+            held_asked(found)?;
+            Ok(None)
+        }
+        Call::OwnShip(fix) => {
+            fix_asked(fix)?;
+            Ok(None)
+        }
+        Call::Track(start, end) => {
+            ends_asked(start, end)?;
+            Ok(None)
+        }
+        Call::Solve(identity) => {
+            identity_asked(identity)?;
+            let scene = see(found, own, track)?;
+            Ok(Some(solve_line(radius, scene)))
+        }
     }
 }
 
@@ -176,27 +181,27 @@ fn name_of(call: Call) -> u16
 }
 
 // The own ship after an accepted call.
-pub fn own_after(call: Call, own: Own) -> Own
+pub fn own_after(call: Call, own: Option<Vehicle>) -> Option<Vehicle>
     ensures { result ≡ spec.own_after call own }
 {
     match call {
         Call::Report(_, _) => own,
         Call::Withdraw(_) => own,
-        Call::OwnShip(fix) => Own::Ship(vehicle(fix)),
+        Call::OwnShip(fix) => Some(vehicle(fix)),
         Call::Track(_, _) => own,
         Call::Solve(_) => own,
     }
 }
 
 // The track after an accepted call.
-pub fn track_after(call: Call, track: Tracked) -> Tracked
+pub fn track_after(call: Call, track: Option<Ends>) -> Option<Ends>
     ensures { result ≡ spec.track_after call track }
 {
     match call {
         Call::Report(_, _) => track,
         Call::Withdraw(_) => track,
         Call::OwnShip(_) => track,
-        Call::Track(start, end) => Tracked::Along(ends(start, end)),
+        Call::Track(start, end) => Some(ends(start, end)),
         Call::Solve(_) => track,
     }
 }
@@ -206,9 +211,9 @@ fn total_after(answer: Answer, total: u32) -> u32
     ensures { result ≡ spec.raised answer total }
 {
     match answer {
-        Answer::Done => total,
-        Answer::Solved(line) => raise(total, line),
-        Answer::Refused(_) => total,
+        Ok(None) => total,
+        Ok(Some(line)) => raise(total, line),
+        Err(_) => total,
     }
 }
 
@@ -225,44 +230,44 @@ fn seek_in(entries: [Target; MOST_TARGETS], n: usize, identity: u16) -> Sought
                 let t = entries[i];
                 let held = t.held;
                 return Sought {
-                    spot: Spot::At(i),
-                    found: Found::There(held),
+                    spot: Ok(i),
+                    found: Some(held),
                 };
             }
             return Sought {
-                spot: Spot::Before(i),
-                found: Found::Nothing,
+                spot: Err(i),
+                found: None,
             };
         }
         i += 1;
     }
     Sought {
-        spot: Spot::Before(i),
-        found: Found::Nothing,
+        spot: Err(i),
+        found: None,
     }
 }
 
 // What an accepted call with this answer does to the targets, where the identity that it names stands there and this is held under it.
-fn change_of(call: Call, answer: Answer, spot: Spot, found: Found) -> Change
+fn change_of(call: Call, answer: Answer, spot: Result<usize, usize>, found: Option<Held>) -> Change
     ensures { code.RightChange call answer spot found result }
 {
     match call {
         Call::Report(identity, fix) => {
             let held = Held {
                 report: vehicle(fix),
-                line: Lined::Bare,
+                line: None,
             };
             placing(spot, Target { identity, held })
         }
         Call::Withdraw(_) => match spot {
-            Spot::At(p) => Change::Removes(p),
-            Spot::Before(_) => Change::Stays,
+            Ok(p) => Change::Removes(p),
+            Err(_) => Change::Stays,
         },
         Call::OwnShip(_) => Change::Sweeps,
         Call::Track(_, _) => Change::Sweeps,
         Call::Solve(identity) => match found {
-            Found::Nothing => Change::Stays,
-            Found::There(held) => {
+            None => Change::Stays,
+            Some(held) => {
                 let held = with_line(answer, held);
                 placing(spot, Target { identity, held })
             }
@@ -271,12 +276,12 @@ fn change_of(call: Call, answer: Answer, spot: Spot, found: Found) -> Change
 }
 
 // A target stored where its identity stands, or inserted where it belongs.
-fn placing(spot: Spot, t: Target) -> Change
+fn placing(spot: Result<usize, usize>, t: Target) -> Change
     ensures { result ≡ code.placing spot t }
 {
     match spot {
-        Spot::At(p) => Change::Stores(p, t),
-        Spot::Before(p) => Change::Inserts(p, t),
+        Ok(p) => Change::Stores(p, t),
+        Err(p) => Change::Inserts(p, t),
     }
 }
 
@@ -299,14 +304,14 @@ fn with_line(answer: Answer, held: Held) -> Held
     ensures { result ≡ spec.with_line answer held }
 {
     match answer {
-        Answer::Done => held,
-        Answer::Solved(line) => {
+        Ok(None) => held,
+        Ok(Some(line)) => {
             let report = held.report;
             Held {
                 report,
-                line: Lined::With(line),
+                line: Some(line),
             }
         }
-        Answer::Refused(_) => held,
+        Err(_) => held,
     }
 }

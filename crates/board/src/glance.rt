@@ -3,20 +3,22 @@
 ghost use Rattle.std.specs.Prelude.{◌≡◌};
 ghost use Rattle.board.specs.Glance as spec;
 
-use crate::board::{own_after, refuses, track_after};
-use plain::call::{Answer, Call, Fix};
-use plain::state::{Board, Own, Tracked};
-use plain::targets::{Held, Lined, MOST_TARGETS, Target, Targets};
+use crate::board::{own_after, track_after};
+use jord::vehicle::Vehicle;
+use plain::call::{Answer, Call, Fix, Refusal};
+use plain::line::Ends;
+use plain::state::Board;
+use plain::targets::{Held, MOST_TARGETS, Target, Targets};
 use questions::call::vehicle;
-use questions::{ask, ask_ends, ask_fix, identity_asked};
-use targets::{Spot, seek};
+use questions::{ends_asked, fix_asked, identity_asked};
+use targets::seek;
 
 // All of a board but the entries of its targets.
 #[derive(Clone, Copy)]
 pub struct Setting {
     pub radius: f64,
-    pub own: Own,
-    pub track: Tracked,
+    pub own: Option<Vehicle>,
+    pub track: Option<Ends>,
     pub count: usize,
     pub total: u32,
 }
@@ -77,8 +79,8 @@ pub fn glance(setting: Setting, ids: &[u16], call: Call) -> Hint
     match call {
         Call::Report(identity, fix) => at_report(setting.count, ids, identity, fix),
         Call::Withdraw(_) => Hint::Unclear,
-        Call::OwnShip(fix) => at_setting(setting, call, ask_fix(fix, Answer::Done)),
-        Call::Track(start, end) => at_setting(setting, call, ask_ends(start, end, Answer::Done)),
+        Call::OwnShip(fix) => at_setting(setting, call, fix_asked(fix)),
+        Call::Track(start, end) => at_setting(setting, call, ends_asked(start, end)),
         Call::Solve(_) => Hint::Unclear,
     }
 }
@@ -87,38 +89,40 @@ pub fn glance(setting: Setting, ids: &[u16], call: Call) -> Hint
 fn at_report(count: usize, ids: &[u16], identity: u16, fix: Fix) -> Hint
     ensures { result ≡ spec.at_report count ids.now identity fix }
 {
-    let answer = ask(identity_asked(identity), ask_fix(fix, Answer::Done));
-    if refuses(answer) {
-        return Hint::Stays(answer);
+    if let Err(refusal) = report_asked(identity, fix) {
+        return Hint::Stays(Err(refusal));
     }
     match seek(ids, count, identity) {
-        Spot::At(p) => {
+        Ok(p) => {
             let held = Held {
                 report: vehicle(fix),
-                line: Lined::Bare,
+                line: None,
             };
             let target = Target { identity, held };
             Hint::Puts(p, target)
         }
-        Spot::Before(_) => Hint::Unclear,
+        Err(_) => Hint::Unclear,
     }
 }
 
-// An own ship or a track that is accepted takes every line away.
-fn at_setting(setting: Setting, call: Call, answer: Answer) -> Hint
-    ensures { result ≡ spec.at_setting setting call answer }
+// The questions of a report whose target is held.
+fn report_asked(identity: u16, fix: Fix) -> Result<(), Refusal>
+    ensures { result ≡ spec.report_asked identity fix }
 {
-    if refuses(answer) {
-        return Hint::Stays(answer);
+    identity_asked(identity)?;
+    fix_asked(fix)
+}
+
+// An own ship or a track of which this is said: one that is accepted takes every line away.
+fn at_setting(setting: Setting, call: Call, said: Result<(), Refusal>) -> Hint
+    ensures { result ≡ spec.at_setting setting call said }
+{
+    match said {
+        Ok(()) => Hint::Sweeps(Setting {
+            own: own_after(call, setting.own),
+            track: track_after(call, setting.track),
+            ..setting
+        }),
+        Err(refusal) => Hint::Stays(Err(refusal)),
     }
-    let own = setting.own;
-    let track = setting.track;
-    let after = Setting {
-        radius: setting.radius,
-        own: own_after(call, own),
-        track: track_after(call, track),
-        count: setting.count,
-        total: setting.total,
-    };
-    Hint::Sweeps(after)
 }

@@ -3,8 +3,7 @@ use crate::inputs::{HELD, coordinates, fix, identity};
 use board::board::{fresh, own_ship, refuses, report, solve, track, withdraw};
 use jord::positions::NVector;
 use means::NoMean;
-use plain::asking::Choice;
-use plain::call::Answer;
+use plain::call::{Answer, Refusal};
 use plain::state::{Answered, Board};
 use targets::asking::{mean, pick, total};
 
@@ -53,9 +52,9 @@ pub(crate) fn digest(run: Run) -> u64 {
 // 0 for done, 1 for a line, or the refusal's number.
 fn of_answer(answer: Answer) -> u64 {
     match answer {
-        Answer::Done => 0,
-        Answer::Solved(_) => 1,
-        Answer::Refused(refusal) => refusal.number() as u64,
+        Ok(None) => 0,
+        Ok(Some(_)) => 1,
+        Err(refusal) => refusal.number() as u64,
     }
 }
 
@@ -73,10 +72,10 @@ fn of_position(p: NVector) -> u64 {
 }
 
 // The identity, or the refusal's number.
-fn of_choice(choice: Choice) -> u64 {
+fn of_choice(choice: Result<u16, Refusal>) -> u64 {
     match choice {
-        Choice::Target(identity) => identity as u64,
-        Choice::Refused(refusal) => refusal.number() as u64,
+        Ok(identity) => identity as u64,
+        Err(refusal) => refusal.number() as u64,
     }
 }
 

@@ -1,8 +1,8 @@
 -- The input in pieces is the input: whatever the pieces and the pages are, what is written is the replies to the whole.
+use Rattle.std.specs.Prelude.{Option, None}
 use Prim.Native.Nat.{ℕ, ◌+◌, ◌≤◌, ◌<◌}
 use mathlib.Core.Bool.{Bool, true, false}
 use mathlib.Core.List.{List, [], ◌∷◌, ◌++◌, append_assoc, append-nil}
-use mathlib.Core.Option.{Option, none}
 use mathlib.Core.Path.{◌≡◌, refl, sym, ap, ◌∙◌}
 use native.Mathlib.Decide.{dec_le}
 use native.Mathlib.Nat.{zero-add}
@@ -140,16 +140,16 @@ ran-text (fed {s} {page} {out} {text} xs rest r f p) =
 -- all that an input is answered, from a stream of which nothing has come, is its replies
 pub whole-text : (xs : List ℕ) → fed_text fresh xs ++ end_text (fed_state fresh xs) ≡ replies xs
 unfolding fresh
-whole-text xs = whole xs none [] ∙ ap (replies_to none) (begun-none (lines_of xs))
+whole-text xs = whole xs None [] ∙ ap (replies_to None) (begun-none (lines_of xs))
 
 -- whatever the pieces and the pages are, what is written is the replies to the whole input
 pub whole-input : (s : Stream) → view s ≡ fresh → AnswersAll s
 unfolding fresh
 whole-input s e input text p =
-    ran-text p ∙ rw e (whole input none [] ∙ ap (replies_to none) (begun-none (lines_of input)))
+    ran-text p ∙ rw e (whole input None [] ∙ ap (replies_to None) (begun-none (lines_of input)))
 
 -- a stream of which nothing has come
-pub begun-answers : (session : Session) (line : List ℕ) → plain_of session ≡ none
+pub begun-answers : (session : Session) (line : List ℕ) → plain_of session ≡ None
     → (view (record { session = session; line = line; n = 0 }) ≡ fresh) × AnswersAll (record { session = session; line = line; n = 0 })
 unfolding fresh
 begun-answers session line e =

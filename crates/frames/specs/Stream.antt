@@ -1,6 +1,5 @@
 -- The input in pieces: what is kept between two pieces, and what a piece is answered. Definitions only.
-use Rattle.std.specs.Prelude.{ℕ, suc, ◌+◌, ◌-◌, ◌≤◌, cond, ◌&&◌, List, [], ◌∷◌, ◌++◌, ◌≡◌, eqb, ltb, length, take, drop}
-use Rattle.std.proofs.Math.Option.{Option, none}
+use Rattle.std.specs.Prelude.{ℕ, suc, ◌+◌, ◌-◌, ◌≤◌, cond, ◌&&◌, List, [], ◌∷◌, ◌++◌, ◌≡◌, eqb, ltb, length, take, drop, Option, None}
 use Rattle.plain.specs.Board.{Plain}
 use Rattle.hex_digits.specs.Write.{Wrote}
 use Rattle.frames.specs.declared.stream.Fed.{Fed}
@@ -24,7 +23,7 @@ pub record Model : Type 0 where
 
 -- nothing has come
 unfoldable pub fresh : Model
-fresh = record { board = none; part = [] }
+fresh = record { board = None; part = [] }
 
 -- one more byte of the line
 unfoldable pub added : List ℕ → ℕ → List ℕ

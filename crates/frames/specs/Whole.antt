@@ -1,6 +1,5 @@
 -- What the program answers to a whole input. Definitions only.
-use Rattle.std.specs.Prelude.{ℕ, cond, List, [], ◌∷◌, ◌++◌, eqb}
-use Rattle.std.proofs.Math.Option.{Option, none}
+use Rattle.std.specs.Prelude.{ℕ, cond, List, [], ◌∷◌, ◌++◌, eqb, Option, None}
 use Rattle.plain.specs.Board.{Plain}
 use Rattle.wire.specs.declared.frame.Frame.{Frame}
 use Rattle.wire.specs.Frame.{frame_of}
@@ -36,4 +35,4 @@ replies_to o (l ∷ ls) = reply_line o (frame_of l) ++ replies_to (next o (frame
 
 -- all output for a whole input
 abbrev pub replies : List ℕ → List ℕ
-replies xs = replies_to none (lines_of xs)
+replies xs = replies_to None (lines_of xs)

@@ -1,17 +1,14 @@
 -- Demand 3, of every radius and every list of calls.
+use Rattle.std.specs.Prelude.{Option, Some, None}
 use Prim.Native.Nat.{ℕ, ◌≤◌}
 use native.Mathlib.Omega.{arith}
 use mathlib.Core.List.{List}
 use mathlib.Core.Logic.{◌↔◌}
-use mathlib.Core.Option.{some, none}
 use mathlib.Core.Path.{◌≡◌, refl, sym, ◌∙◌, ap}
 use lib.Ieee.{Float}
 use lib.ListN.{length}
 use Rattle.jord.specs.declared.vehicle.Vehicle.{Vehicle}
-use Rattle.plain.specs.declared.targets.Lined.TheVariants.{Bare}
 use Rattle.plain.specs.declared.targets.Held.{Held}
-use Rattle.plain.specs.declared.targets.Found.{Found}
-use Rattle.plain.specs.declared.targets.Found.TheVariants.{Nothing, There}
 use Rattle.plain.specs.declared.call.Call.{Call}
 use Rattle.plain.specs.Targets.{most_targets, find}
 use Rattle.plain.specs.Board.{fresh, run}
@@ -32,19 +29,19 @@ fresh-fit : (r : Float) → Fit (fresh r)
 unfolding fresh
 fresh-fit r = record { rising = tt }
 
-no-report : (v : Vehicle) → report_of Nothing ≡ some v → ⊥
+no-report : (v : Vehicle) → report_of None ≡ Some v → ⊥
 unfolding report_of
 no-report v e = let z : ◌≡◌ {A = ℕ} 0 1 = cc in omega arith
 
-report-of : (h : Held) (v : Vehicle) → report_of (There h) ≡ some v → h.report ≡ v
+report-of : (h : Held) (v : Vehicle) → report_of (Some h) ≡ Some v → h.report ≡ v
 unfolding report_of
 report-of h v e = cc
 
 module _ (r : Float) (cs : List Call) where
-  report-is : (i : ℕ) → report_of (find i (run (fresh r) cs).targets) ≡ last_report i none (heard (fresh r) cs)
+  report-is : (i : ℕ) → report_of (find i (run (fresh r) cs).targets) ≡ last_report i None (heard (fresh r) cs)
   report-is i = run-report i (fresh r) cs (fresh-fit r) ∙ unfold fresh find report_of in refl
 
-  held-line : (i : ℕ) (h : Held) → Holds (run (fresh r) cs) i h → h.line ≡ last_line i Bare (heard (fresh r) cs)
+  held-line : (i : ℕ) (h : Held) → Holds (run (fresh r) cs) i h → h.line ≡ last_line i None (heard (fresh r) cs)
   unfolding line_of
   held-line i h e = sym (ap line_of e) ∙ run-line i (fresh r) cs (fresh-fit r) ∙ unfold fresh find in refl
 
@@ -54,12 +51,12 @@ module _ (r : Float) (cs : List Call) where
     λ l. from (find i (run (fresh r) cs).targets) refl (report-is i ∙ (last-reported i v (heard (fresh r) cs)).1 l),
   )
     where
-      from : (x : Found) → find i (run (fresh r) cs).targets ≡ x → report_of (find i (run (fresh r) cs).targets) ≡ some v
+      from : (x : Option Held) → find i (run (fresh r) cs).targets ≡ x → report_of (find i (run (fresh r) cs).targets) ≡ Some v
           → Stands (run (fresh r) cs) i v
-      from Nothing e p = absurd (no-report v (sym (ap report_of e) ∙ p))
-      from (There h) e p =
+      from None e p = absurd (no-report v (sym (ap report_of e) ∙ p))
+      from (Some h) e p =
           let w : h.report ≡ v = report-of h v (sym (ap report_of e) ∙ p) in
-          record { line = h.line; there = e ∙ ap (λ (u : Vehicle). There (record { report = u; line = h.line })) w }
+          record { line = h.line; there = e ∙ ap (λ (u : Vehicle). Some (record { report = u; line = h.line })) w }
 
   empty-known : (ids : List ℕ) → AllIn ids (fresh r).targets
   unfolding AllIn fresh find
@@ -79,7 +76,7 @@ demand-3 r cs =
       stands = stands-is r cs;
       line = held-line r cs;
       counts_handed_out = answers-fit (fresh r) cs;
-      counts_standing = λ i h e. rw (held-line r cs i h e) (last_fits i (fresh r) cs Bare tt);
+      counts_standing = λ i h e. rw (held-line r cs i h e) (last_fits i (fresh r) cs None tt);
       total = unfold fresh in omega (arith, run-total (fresh r) cs (unfold fresh in omega arith));
       picks = pick_is 1 (run (fresh r) cs).targets (fit-run (fresh r) cs (fresh-fit r)).rising;
       exchange = alike r cs;

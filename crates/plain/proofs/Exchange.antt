@@ -1,25 +1,21 @@
 -- Neighbours that name different targets may be exchanged, where the list names at most 64 identities.
+use Rattle.std.specs.Prelude.{Option, Some, None, Ok, Err}
 use Prim.Native.Nat.{ℕ, zero, suc, ◌≤◌, ◌<◌}
 use native.Mathlib.Omega.{arith}
 use native.Mathlib.Decide.{ℕ_discrete}
 use mathlib.Core.Bool.{Bool, true, false, cond}
 use mathlib.Core.List.{List, [], ◌∷◌}
 use mathlib.Core.Logic.{◌≢◌}
-use mathlib.Core.Option.{Option, some, none}
 use mathlib.Core.Path.{◌≡◌, refl, sym, ◌∙◌, ap}
 use lib.ListN.{length}
 use lib.Dec.{eqb}
 use borrow.Author.Tests.{lt-ltb, eq-eqb, ne_eqb}
-use Rattle.plain.specs.declared.targets.Found.{Found}
-use Rattle.plain.specs.declared.targets.Found.TheVariants.{Nothing, There}
+use Rattle.plain.specs.declared.targets.Held.{Held}
 use Rattle.plain.specs.declared.targets.Target.{Target}
 use Rattle.plain.specs.declared.call.Call.{Call}
 use Rattle.plain.specs.declared.call.Call.TheVariants.{Report, Withdraw, OwnShip, Track, Solve}
-use Rattle.plain.specs.declared.call.Answer.{Answer}
-use Rattle.plain.specs.declared.call.Answer.TheVariants.{Done, Solved, Refused}
-use Rattle.plain.specs.declared.questions.Said.TheVariants.{Yes}
 use Rattle.plain.specs.Targets.{most_targets, find, place, bared, RisingFrom}
-use Rattle.plain.specs.Call.{named}
+use Rattle.plain.specs.Call.{Answer, named}
 use Rattle.plain.specs.Questions.{ask, identity_asked, ask_fix, held_asked, room_asked, see, solved}
 use Rattle.plain.specs.Board.{Plain, answer, leaves, swept, raised, outcome, after, run}
 use Rattle.plain.specs.History.{Heard, heard}
@@ -31,27 +27,26 @@ use Rattle.plain.proofs.Steps.{Fit, fit-after, after-elim, onto, accepted-onto}
 -- ---- what a call that names a target reads and writes: that target's place, own ship, track, radius and total
 
 -- the answer of a call for what is held under the identity that it names, where there is room
-reply : Plain → Call → Found → Answer
-reply b (Report i f) x = ask (identity_asked i) (ask_fix f Done)
-reply b (Withdraw i) x = ask (identity_asked i) (ask (held_asked x) Done)
-reply b (OwnShip f) x = Done
-reply b (Track s e) x = Done
+reply : Plain → Call → Option Held → Answer
+reply b (Report i f) x = ask (identity_asked i) (ask_fix f (Ok None))
+reply b (Withdraw i) x = ask (identity_asked i) (ask (held_asked x) (Ok None))
+reply b (OwnShip f) x = Ok None
+reply b (Track s e) x = Ok None
 reply b (Solve i) x = ask (identity_asked i) (solved b.radius (see x b.own b.track))
 
 -- what it leaves there
-cell : Call → Answer → Found → Found
-cell c Done x = leaves c Done x
-cell c (Solved l) x = leaves c (Solved l) x
-cell c (Refused r) x = x
+cell : Call → Answer → Option Held → Option Held
+cell c (Ok l) x = leaves c (Ok l) x
+cell c (Err r) x = x
 
 raised-comm : (x y : Answer) (n : ℕ) → raised x (raised y n) ≡ raised y (raised x n)
-raised-comm (Solved l) (Solved m) n = omega arith
-raised-comm (Solved l) Done n = refl
-raised-comm (Solved l) (Refused r) n = refl
-raised-comm Done y n = refl
-raised-comm (Refused r) y n = refl
+raised-comm (Ok (Some l)) (Ok (Some m)) n = omega arith
+raised-comm (Ok (Some l)) (Ok None) n = refl
+raised-comm (Ok (Some l)) (Err r) n = refl
+raised-comm (Ok None) y n = refl
+raised-comm (Err r) y n = refl
 
-reply-onto : (b : Plain) (i : ℕ) (x : Found) (n : ℕ) (c : Call) (y : Found) → reply (onto b i x n) c y ≡ reply b c y
+reply-onto : (b : Plain) (i : ℕ) (x : Option Held) (n : ℕ) (c : Call) (y : Option Held) → reply (onto b i x n) c y ≡ reply b c y
 unfolding reply onto
 reply-onto b i x n (Report j f) y = refl
 reply-onto b i x n (Withdraw j) y = refl
@@ -59,12 +54,11 @@ reply-onto b i x n (OwnShip f) y = refl
 reply-onto b i x n (Track s e) y = refl
 reply-onto b i x n (Solve j) y = refl
 
-outcome-onto : (b : Plain) (c : Call) (i : ℕ) → named c ≡ some i → RisingFrom 0 b.targets → (a : Answer)
+outcome-onto : (b : Plain) (c : Call) (i : ℕ) → named c ≡ Some i → RisingFrom 0 b.targets → (a : Answer)
     → outcome b c a ≡ onto b i (cell c a (find i b.targets)) (raised a b.total)
 unfolding outcome cell
-outcome-onto b c i e r Done = accepted-onto b c i e Done
-outcome-onto b c i e r (Solved l) = accepted-onto b c i e (Solved l)
-outcome-onto b c i e r (Refused n) = unfold onto in rw (place-find 0 i b.targets (omega arith) r)
+outcome-onto b c i e r (Ok l) = accepted-onto b c i e (Ok l)
+outcome-onto b c i e r (Err n) = unfold onto in rw (place-find 0 i b.targets (omega arith) r)
 
 -- ---- boards whose targets are all members of ids
 
@@ -74,17 +68,17 @@ pub record Sound (ids : List ℕ) (b : Plain) : Type 0 where
 
 -- the call names a member of ids, if any
 unfoldable pub NamesIn : List ℕ → Call → Type 0
-NamesIn ids c = (i : ℕ) → named c ≡ some i → i ≢ 0 → among i ids ≡ true
+NamesIn ids c = (i : ℕ) → named c ≡ Some i → i ≢ 0 → among i ids ≡ true
 
 -- question 9 is always answered by yes
 room : (ids : List ℕ) (b : Plain) (i : ℕ) → length ids ≤ most_targets → Sound ids b → among i ids ≡ true
-    → (x : Found) → find i b.targets ≡ x → room_asked x (length b.targets) ≡ Yes
-room ids b i h s m Nothing e =
+    → (x : Option Held) → find i b.targets ≡ x → room_asked x (length b.targets) ≡ Ok tt
+room ids b i h s m None e =
     let q : length b.targets < length ids = pigeons-room 1 i b.targets ids s.fit.rising s.all_known e m in
     simp (lt-ltb (length b.targets) most_targets (omega arith))
-room ids b i h s m (There x) e = refl
+room ids b i h s m (Some x) e = refl
 
-answer-reply : (ids : List ℕ) (b : Plain) (c : Call) (i : ℕ) → length ids ≤ most_targets → Sound ids b → named c ≡ some i → NamesIn ids c
+answer-reply : (ids : List ℕ) (b : Plain) (c : Call) (i : ℕ) → length ids ≤ most_targets → Sound ids b → named c ≡ Some i → NamesIn ids c
     → answer b c ≡ reply b c (find i b.targets)
 unfolding answer reply NamesIn named
 answer-reply ids b (Report j f) i h s e m = go (ℕ_discrete i 0)
@@ -104,11 +98,11 @@ bared-known : (ids : List ℕ) (l : List Target) → AllIn ids l → AllIn ids (
 unfolding AllIn bared_in
 bared-known ids l k i h e = go (find i l) refl
   where
-    go : (x : Found) → find i l ≡ x → among i ids ≡ true
-    go Nothing q = let z : ◌≡◌ {A = Found} Nothing (There h) = sym (find-bared i l ∙ ap bared_in q) ∙ e in cc
-    go (There y) q = k i y q
+    go : (x : Option Held) → find i l ≡ x → among i ids ≡ true
+    go None q = let z : ◌≡◌ {A = Option Held} None (Some h) = sym (find-bared i l ∙ ap bared_in q) ∙ e in cc
+    go (Some y) q = k i y q
 
-place-known : (ids : List ℕ) (n i : ℕ) (x : Found) (l : List Target) → n ≤ i → RisingFrom n l → among i ids ≡ true → AllIn ids l
+place-known : (ids : List ℕ) (n i : ℕ) (x : Option Held) (l : List Target) → n ≤ i → RisingFrom n l → among i ids ≡ true → AllIn ids l
     → AllIn ids (place i x l)
 unfolding AllIn
 place-known ids n i x l g r m k j h e = go (ℕ_discrete j i)
@@ -141,7 +135,7 @@ rising-0 ids b s = rising_down 0 1 b.targets (omega arith) s.fit.rising
 -- ---- two neighbours
 
 module _ (ids : List ℕ) (fits : length ids ≤ most_targets) where
-  step-at : (b : Plain) (c : Call) (i : ℕ) → Sound ids b → named c ≡ some i → NamesIn ids c
+  step-at : (b : Plain) (c : Call) (i : ℕ) → Sound ids b → named c ≡ Some i → NamesIn ids c
       → after b c
       ≡ onto b i (cell c (reply b c (find i b.targets)) (find i b.targets)) (raised (reply b c (find i b.targets)) b.total)
   unfolding after
@@ -153,8 +147,8 @@ module _ (ids : List ℕ) (fits : length ids ≤ most_targets) where
       (c d : Call)
       (i j : ℕ)
       (s : Sound ids b)
-      (ec : named c ≡ some i)
-      (ed : named d ≡ some j)
+      (ec : named c ≡ Some i)
+      (ed : named d ≡ Some j)
       (mc : NamesIn ids c)
       (md : NamesIn ids d)
       (apart : i ≢ j)
@@ -164,7 +158,7 @@ module _ (ids : List ℕ) (fits : length ids ≤ most_targets) where
       find-apart =
           rw (step-at b c i s ec mc) (find-place-other 0 i j _ b.targets (omega arith) (rising-0 ids b s) (λ e. apart (sym e)))
 
-      reply-apart : (y : Found) → reply (after b c) d y ≡ reply b d y
+      reply-apart : (y : Option Held) → reply (after b c) d y ≡ reply b d y
       reply-apart y = rw (step-at b c i s ec mc) (reply-onto b i _ _ d y)
 
       answer-apart : answer (after b c) d ≡ answer b d
@@ -247,8 +241,8 @@ module _ (ids : List ℕ) (fits : length ids ≤ most_targets) where
 
 among-with_named : (o : Option ℕ) (i : ℕ) (l : List ℕ) → among i l ≡ true → among i (with_named o l) ≡ true
 unfolding with_named among
-among-with_named none i l e = e
-among-with_named (some j) i l e = go (eqb j 0) (among j l)
+among-with_named None i l e = e
+among-with_named (Some j) i l e = go (eqb j 0) (among j l)
   where
     inner : (q : Bool) → eqb i j ≡ q → among i (j ∷ l) ≡ true
     inner true h = rw h
@@ -259,10 +253,10 @@ among-with_named (some j) i l e = go (eqb j 0) (among j l)
     go false true = e
     go false false = inner (eqb i j) refl
 
-named-among : (o : Option ℕ) (i : ℕ) (l : List ℕ) → o ≡ some i → i ≢ 0 → among i (with_named o l) ≡ true
+named-among : (o : Option ℕ) (i : ℕ) (l : List ℕ) → o ≡ Some i → i ≢ 0 → among i (with_named o l) ≡ true
 unfolding with_named
-named-among none i l e n = cc
-named-among (some j) i l e n = rw (ne_eqb j 0 (omega (arith, p))) (go (among j l) refl)
+named-among None i l e n = cc
+named-among (Some j) i l e n = rw (ne_eqb j 0 (omega (arith, p))) (go (among j l) refl)
   where
     p : j ≡ i
     p = cc

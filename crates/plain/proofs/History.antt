@@ -1,32 +1,24 @@
 -- What stands on the board after a list of calls, told from the calls and their answers: reports, lines, total and counts.
+use Rattle.std.specs.Prelude.{Option, Some, None, Ok, Err}
 use Prim.Native.Nat.{ℕ, ◌<◌, ◌+◌, ◌%◌, ◌^◌}
 use native.Mathlib.Omega.{arith}
 use native.Mathlib.Decide.{ℕ_discrete}
 use mathlib.Core.Bool.{Bool, true, false, cond}
 use mathlib.Core.List.{List, [], ◌∷◌}
 use mathlib.Core.Logic.{◌≢◌}
-use mathlib.Core.Option.{Option, some, none}
 use mathlib.Core.Path.{◌≡◌, refl, sym, ◌∙◌, ap}
 use lib.Dec.{eqb}
 use lib.Ieee.{Float}
 use borrow.Author.Tests.{eq-eqb, ne_eqb}
 use Rattle.jord.specs.declared.vehicle.Vehicle.{Vehicle}
+use Rattle.plain.specs.declared.line.Ends.{Ends}
+use Rattle.plain.specs.declared.targets.Held.{Held}
 use Rattle.plain.specs.declared.line.Line.{Line}
-use Rattle.plain.specs.declared.targets.Lined.{Lined}
-use Rattle.plain.specs.declared.targets.Lined.TheVariants.{Bare}
-use Rattle.plain.specs.declared.targets.Found.{Found}
-use Rattle.plain.specs.declared.targets.Found.TheVariants.{Nothing, There}
-use Rattle.plain.specs.declared.state.Own.{Own}
-use Rattle.plain.specs.declared.state.Tracked.{Tracked}
 use Rattle.plain.specs.declared.call.Call.{Call}
 use Rattle.plain.specs.declared.call.Call.TheVariants.{Report, Withdraw, OwnShip, Track, Solve}
-use Rattle.plain.specs.declared.call.Answer.{Answer}
-use Rattle.plain.specs.declared.call.Answer.TheVariants.{Done, Solved, Refused}
-use Rattle.plain.specs.declared.questions.Said.{Said}
-use Rattle.plain.specs.declared.questions.Said.TheVariants.{Yes, No}
 use Rattle.plain.specs.Targets.{find, place, bared}
-use Rattle.plain.specs.Call.{vehicle, named}
-use Rattle.plain.specs.Questions.{ask, identity_asked, see, solved}
+use Rattle.plain.specs.Call.{Answer, vehicle, named}
+use Rattle.plain.specs.Questions.{Said, ask, identity_asked, see, solved}
 use Rattle.plain.specs.Board.{Plain, answer, lined, leaves, put, swept, targets_after, raised, accepted, outcome, after, run, answers}
 use Rattle.plain.specs.History.{Heard, heard, accepts, given, handed_out, line_given, new_line, hear_line, last_line}
 use Rattle.plain.proofs.Places.{find-place-same, find-place-other, rising_down, bared_in, find-bared}
@@ -34,19 +26,19 @@ use Rattle.plain.proofs.Steps.{Fit, fit-after, onto, accepted-onto}
 
 -- ---- what is held, by its parts
 
-unfoldable pub report_of : Found → Option Vehicle
-report_of Nothing = none
-report_of (There h) = some h.report
+unfoldable pub report_of : Option Held → Option Vehicle
+report_of None = None
+report_of (Some h) = Some h.report
 
-unfoldable pub line_of : Found → Lined
-line_of Nothing = Bare
-line_of (There h) = h.line
+unfoldable pub line_of : Option Held → Option Line
+line_of None = None
+line_of (Some h) = h.line
 
 -- ---- the last accepted report of target i, call by call
 
 unfoldable pub new_report : ℕ → Call → Option Vehicle → Option Vehicle
-new_report i (Report j f) x = cond (eqb i j) (some (vehicle f)) x
-new_report i (Withdraw j) x = cond (eqb i j) none x
+new_report i (Report j f) x = cond (eqb i j) (Some (vehicle f)) x
+new_report i (Withdraw j) x = cond (eqb i j) None x
 new_report i (OwnShip f) x = x
 new_report i (Track s e) x = x
 new_report i (Solve j) x = x
@@ -75,7 +67,7 @@ cond-at f i j y = go (ℕ_discrete i j)
     go (yes e) = ap (λ (k : ℕ). cond (eqb i j) (f k) y) (sym e)
     go (no n) = rw (ne_eqb i j n)
 
-find-place : (i j : ℕ) (b : Plain) (x : Found) → Fit b → find i (place j x b.targets) ≡ cond (eqb i j) x (find i b.targets)
+find-place : (i j : ℕ) (b : Plain) (x : Option Held) → Fit b → find i (place j x b.targets) ≡ cond (eqb i j) x (find i b.targets)
 find-place i j b x f = go (ℕ_discrete i j)
   where
     go : Dec (i ≡ j) → find i (place j x b.targets) ≡ cond (eqb i j) x (find i b.targets)
@@ -84,44 +76,44 @@ find-place i j b x f = go (ℕ_discrete i j)
         rw (ne_eqb i j n)
         (find-place-other 0 j i x b.targets (omega arith) (rising_down 0 1 b.targets (omega arith) f.rising) n)
 
-report-lined : (a : Answer) (x : Found) → report_of (lined a x) ≡ report_of x
+report-lined : (a : Answer) (x : Option Held) → report_of (lined a x) ≡ report_of x
 unfolding report_of
-report-lined a Nothing = refl
-report-lined Done (There h) = refl
-report-lined (Solved l) (There h) = refl
-report-lined (Refused r) (There h) = refl
+report-lined a None = refl
+report-lined (Ok None) (Some h) = refl
+report-lined (Ok (Some l)) (Some h) = refl
+report-lined (Err r) (Some h) = refl
 
-report-bared : (x : Found) → report_of (bared_in x) ≡ report_of x
+report-bared : (x : Option Held) → report_of (bared_in x) ≡ report_of x
 unfolding report_of bared_in
-report-bared Nothing = refl
-report-bared (There h) = refl
+report-bared None = refl
+report-bared (Some h) = refl
 
-line-bared : (x : Found) → line_of (bared_in x) ≡ Bare
+line-bared : (x : Option Held) → line_of (bared_in x) ≡ None
 unfolding line_of bared_in
-line-bared Nothing = refl
-line-bared (There h) = refl
+line-bared None = refl
+line-bared (Some h) = refl
 
-line-lined : (a : Answer) (x : Found) → ((l : Line) → a ≡ Solved l → x ≢ Nothing) → line_of (lined a x) ≡ line_given a (line_of x)
+line-lined : (a : Answer) (x : Option Held) → ((l : Line) → a ≡ Ok (Some l) → x ≢ None) → line_of (lined a x) ≡ line_given a (line_of x)
 unfolding line_of line_given
-line-lined Done Nothing n = refl
-line-lined (Solved l) Nothing n = absurd (n l refl refl)
-line-lined (Refused r) Nothing n = refl
-line-lined Done (There h) n = refl
-line-lined (Solved l) (There h) n = refl
-line-lined (Refused r) (There h) n = refl
+line-lined (Ok None) None n = refl
+line-lined (Ok (Some l)) None n = absurd (n l refl refl)
+line-lined (Err r) None n = refl
+line-lined (Ok None) (Some h) n = refl
+line-lined (Ok (Some l)) (Some h) n = refl
+line-lined (Err r) (Some h) n = refl
 
 -- a solve that gives a line found its target
-solved-held : (r : Float) (s : Said) (own : Own) (t : Tracked) (x : Found) (l : Line) → ask s (solved r (see x own t)) ≡ Solved l → x ≢ Nothing
-solved-held r (No n) own t x l e p = let z : ◌≡◌ {A = ℕ} 0 1 = cc in omega arith
-solved-held r Yes own t Nothing l e p = let z : ◌≡◌ {A = ℕ} 0 1 = cc in omega arith
-solved-held r Yes own t (There h) l e p = let z : ◌≡◌ {A = ℕ} 0 1 = cc in omega arith
+solved-held : (r : Float) (s : Said) (own : Option Vehicle) (t : Option Ends) (x : Option Held) (l : Line) → ask s (solved r (see x own t)) ≡ Ok (Some l) → x ≢ None
+solved-held r (Err n) own t x l e p = let z : ◌≡◌ {A = ℕ} 0 1 = cc in omega arith
+solved-held r (Ok tt) own t None l e p = let z : ◌≡◌ {A = ℕ} 0 1 = cc in omega arith
+solved-held r (Ok tt) own t (Some h) l e p = let z : ◌≡◌ {A = ℕ} 0 1 = cc in omega arith
 
 -- ---- one call
 
 module _ (b : Plain) (i : ℕ) (fit : Fit b) where
-  module _ {A : Type 0} (f : Found → A) where
+  module _ {A : Type 0} (f : Option Held → A) where
     -- of the place of i, after a call that names j and makes g of it
-    placed-as : (g : A → A) (c : Call) (a : Answer) (j : ℕ) → named c ≡ some j
+    placed-as : (g : A → A) (c : Call) (a : Answer) (j : ℕ) → named c ≡ Some j
         → f (leaves c a (find j b.targets)) ≡ g (f (find j b.targets))
         → f (find i (accepted b c a).targets) ≡ cond (eqb i j) (g (f (find i b.targets))) (f (find i b.targets))
     placed-as g c a j e q =
@@ -140,8 +132,8 @@ module _ (b : Plain) (i : ℕ) (fit : Fit b) where
   accepted-report : (c : Call) (a : Answer) → report_of (find i (accepted b c a).targets) ≡ new_report i c (report_of (find i b.targets))
   unfolding new_report
   accepted-report (Report j f) a =
-      placed-as report_of (λ x. some (vehicle f)) (Report j f) a j (unfold named in refl) (unfold leaves report_of in refl)
-  accepted-report (Withdraw j) a = placed-as report_of (λ x. none) (Withdraw j) a j (unfold named in refl) (unfold leaves report_of in refl)
+      placed-as report_of (λ x. Some (vehicle f)) (Report j f) a j (unfold named in refl) (unfold leaves report_of in refl)
+  accepted-report (Withdraw j) a = placed-as report_of (λ x. None) (Withdraw j) a j (unfold named in refl) (unfold leaves report_of in refl)
   accepted-report (OwnShip f) a =
       swept_as report_of (OwnShip f) a _ (report-bared (find i b.targets)) (unfold accepted targets_after put named swept in refl)
   accepted-report (Track s e) a =
@@ -152,19 +144,18 @@ module _ (b : Plain) (i : ℕ) (fit : Fit b) where
 
   outcome-report : (c : Call) (a : Answer) → report_of (find i (outcome b c a).targets) ≡ hear_report i c a (report_of (find i b.targets))
   unfolding outcome hear_report
-  outcome-report c Done = accepted-report c Done
-  outcome-report c (Solved l) = accepted-report c (Solved l)
-  outcome-report c (Refused r) = refl
+  outcome-report c (Ok l) = accepted-report c (Ok l)
+  outcome-report c (Err r) = refl
 
   accepted-line : (c : Call) (a : Answer) → answer b c ≡ a
       → line_of (find i (accepted b c a).targets) ≡ new_line i c a (line_of (find i b.targets))
   unfolding new_line answer
-  accepted-line (Report j f) a e = placed-as line_of (λ x. Bare) (Report j f) a j (unfold named in refl) (unfold leaves line_of in refl)
-  accepted-line (Withdraw j) a e = placed-as line_of (λ x. Bare) (Withdraw j) a j (unfold named in refl) (unfold leaves line_of in refl)
+  accepted-line (Report j f) a e = placed-as line_of (λ x. None) (Report j f) a j (unfold named in refl) (unfold leaves line_of in refl)
+  accepted-line (Withdraw j) a e = placed-as line_of (λ x. None) (Withdraw j) a j (unfold named in refl) (unfold leaves line_of in refl)
   accepted-line (OwnShip f) a e =
-      swept_as line_of (OwnShip f) a Bare (line-bared (find i b.targets)) (unfold accepted targets_after put named swept in refl)
+      swept_as line_of (OwnShip f) a None (line-bared (find i b.targets)) (unfold accepted targets_after put named swept in refl)
   accepted-line (Track s t) a e =
-      swept_as line_of (Track s t) a Bare (line-bared (find i b.targets)) (unfold accepted targets_after put named swept in refl)
+      swept_as line_of (Track s t) a None (line-bared (find i b.targets)) (unfold accepted targets_after put named swept in refl)
   accepted-line (Solve j) a e =
       placed-as line_of (line_given a) (Solve j) a j (unfold named in refl)
       (unfold leaves in
@@ -172,9 +163,8 @@ module _ (b : Plain) (i : ℕ) (fit : Fit b) where
 
   outcome-line : (c : Call) (a : Answer) → answer b c ≡ a → line_of (find i (outcome b c a).targets) ≡ hear_line i c a (line_of (find i b.targets))
   unfolding outcome hear_line
-  outcome-line c Done e = accepted-line c Done e
-  outcome-line c (Solved l) e = accepted-line c (Solved l) e
-  outcome-line c (Refused r) e = refl
+  outcome-line c (Ok l) e = accepted-line c (Ok l) e
+  outcome-line c (Err r) e = refl
 
 -- ---- after the list
 
@@ -192,21 +182,20 @@ unfolding run heard last_line
 run-line i b [] f = refl
 run-line i b (c ∷ cs) f =
     run-line i (after b c) cs (fit-after b c f)
-    ∙ unfold after in ap (λ (x : Lined). last_line i x (heard (after b c) cs)) (outcome-line b i f c (answer b c) refl)
+    ∙ unfold after in ap (λ (x : Option Line). last_line i x (heard (after b c) cs)) (outcome-line b i f c (answer b c) refl)
 
 -- ---- the total
 
 outcome-total : (b : Plain) (c : Call) (a : Answer) → (outcome b c a).total ≡ raised a b.total
 unfolding outcome accepted
-outcome-total b c Done = refl
-outcome-total b c (Solved l) = refl
-outcome-total b c (Refused r) = refl
+outcome-total b c (Ok l) = refl
+outcome-total b c (Err r) = refl
 
 raised-given : (a : Answer) (n : ℕ) → n < 2 ^ 32 → raised a n ≡ (n + given a) % 2 ^ 32
 unfolding given
-raised-given Done n h = omega arith
-raised-given (Solved l) n h = refl
-raised-given (Refused r) n h = omega arith
+raised-given (Ok None) n h = omega arith
+raised-given (Ok (Some l)) n h = refl
+raised-given (Err r) n h = omega arith
 
 pub run-total : (b : Plain) (cs : List Call) → b.total < 2 ^ 32 → (run b cs).total ≡ (b.total + handed_out (answers b cs)) % 2 ^ 32
 unfolding run answers handed_out

@@ -1,4 +1,5 @@
 -- The identities of a rising list are among the members of ids: there are no more of them than of ids.
+use Rattle.std.specs.Prelude.{Option, Some, None}
 use Prim.Native.Nat.{ℕ, suc, ◌≤◌, ◌<◌}
 use native.Mathlib.Omega.{arith}
 use native.Mathlib.Decide.{ℕ_discrete}
@@ -11,8 +12,6 @@ use lib.Dec.{eqb}
 use borrow.Author.Tests.{eq-eqb, ne_eqb}
 use Rattle.plain.specs.declared.targets.Held.{Held}
 use Rattle.plain.specs.declared.targets.Target.{Target}
-use Rattle.plain.specs.declared.targets.Found.{Found}
-use Rattle.plain.specs.declared.targets.Found.TheVariants.{Nothing, There}
 use Rattle.plain.specs.Targets.{find, RisingFrom}
 use Rattle.plain.specs.Exchange.{among}
 use Rattle.plain.proofs.Places.{find-same, find-other, find-below}
@@ -59,7 +58,7 @@ among-without i j (x ∷ l) n e = go (ℕ_discrete i x) (ℕ_discrete j x) (amon
 
 -- every identity of the list is among ids
 unfoldable pub AllIn : List ℕ → List Target → Type 0
-AllIn ids l = (i : ℕ) (h : Held) → find i l ≡ There h → among i ids ≡ true
+AllIn ids l = (i : ℕ) (h : Held) → find i l ≡ Some h → among i ids ≡ true
 
 pub pigeons : (n : ℕ) (l : List Target) (ids : List ℕ) → RisingFrom n l → AllIn ids l → length l ≤ length ids
 unfolding AllIn
@@ -76,13 +75,13 @@ pigeons n (t ∷ l) ids r a =
       where
         go : Dec (i ≡ t.identity) → among i (without t.identity ids) ≡ true
         go (yes p) =
-            let q : find i l ≡ Nothing = find-below i (suc t.identity) l (omega arith) r.1 in
-            let z : ◌≡◌ {A = Found} (There h) Nothing = sym e ∙ q in
+            let q : find i l ≡ None = find-below i (suc t.identity) l (omega arith) r.1 in
+            let z : ◌≡◌ {A = Option Held} (Some h) None = sym e ∙ q in
             cc
         go (no p) = among-without t.identity i ids p (a i h (find-other i t l r.1 p ∙ e))
 
 -- with an identity of ids that the list lacks there is one place more
-pub pigeons-room : (n i : ℕ) (l : List Target) (ids : List ℕ) → RisingFrom n l → AllIn ids l → find i l ≡ Nothing → among i ids ≡ true
+pub pigeons-room : (n i : ℕ) (l : List Target) (ids : List ℕ) → RisingFrom n l → AllIn ids l → find i l ≡ None → among i ids ≡ true
     → length l < length ids
 unfolding AllIn
 pigeons-room n i l ids r a f m = omega (arith, pigeons n l (without i ids) r rest, length_without i ids m)
@@ -92,6 +91,6 @@ pigeons-room n i l ids r a f m = omega (arith, pigeons n l (without i ids) r res
       where
         apart : j ≢ i
         apart p =
-            let q : find j l ≡ Nothing = rw p f in
+            let q : find j l ≡ None = rw p f in
             let z : ◌≡◌ {A = ℕ} 0 1 = cc in
             omega arith

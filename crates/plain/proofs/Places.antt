@@ -1,4 +1,5 @@
 -- The laws of `find` and `place` on targets in rising identity.
+use Rattle.std.specs.Prelude.{Option, Some, None}
 use Prim.Native.Nat.{ℕ, suc, ◌≤◌, ◌<◌}
 use native.Mathlib.Omega.{arith}
 use native.Mathlib.Decide.{dec_lt, ℕ_discrete}
@@ -11,8 +12,6 @@ use lib.Dec.{ltb, eqb}
 use borrow.Author.Tests.{lt-ltb, le-ltb, eq-eqb, ne_eqb}
 use Rattle.plain.specs.declared.targets.Held.{Held}
 use Rattle.plain.specs.declared.targets.Target.{Target}
-use Rattle.plain.specs.declared.targets.Found.{Found}
-use Rattle.plain.specs.declared.targets.Found.TheVariants.{Nothing, There}
 use Rattle.plain.specs.Targets.{find, ahead, place, bared, bare_held, RisingFrom}
 
 pub data Order (a b : ℕ) : Type 0 where
@@ -30,7 +29,7 @@ order a b = go (dec_lt a b) (ℕ_discrete a b)
 
 -- the cases of `find` and `place`
 module _ (i : ℕ) (t : Target) (l : List Target) where
-  pub find-same : i ≡ t.identity → find i (t ∷ l) ≡ There t.held
+  pub find-same : i ≡ t.identity → find i (t ∷ l) ≡ Some t.held
   unfolding find
   find-same e = simp (le-ltb t.identity i (omega arith), eq-eqb i t.identity e)
 
@@ -38,19 +37,19 @@ module _ (i : ℕ) (t : Target) (l : List Target) where
   unfolding find
   find-more h = simp (lt-ltb t.identity i h)
 
-  pub find-less : i < t.identity → find i (t ∷ l) ≡ Nothing
+  pub find-less : i < t.identity → find i (t ∷ l) ≡ None
   unfolding find
   find-less h = simp (le-ltb t.identity i (omega arith), ne_eqb i t.identity (omega arith))
 
-  pub place-less : (x : Found) → i < t.identity → place i x (t ∷ l) ≡ ahead i x (t ∷ l)
+  pub place-less : (x : Option Held) → i < t.identity → place i x (t ∷ l) ≡ ahead i x (t ∷ l)
   unfolding place
   place-less x h = simp (le-ltb t.identity i (omega arith), ne_eqb i t.identity (omega arith))
 
-  pub place_same : (x : Found) → i ≡ t.identity → place i x (t ∷ l) ≡ ahead i x l
+  pub place_same : (x : Option Held) → i ≡ t.identity → place i x (t ∷ l) ≡ ahead i x l
   unfolding place
   place_same x e = simp (le-ltb t.identity i (omega arith), eq-eqb i t.identity e)
 
-  pub place-more : (x : Found) → t.identity < i → place i x (t ∷ l) ≡ t ∷ place i x l
+  pub place-more : (x : Option Held) → t.identity < i → place i x (t ∷ l) ≡ t ∷ place i x l
   unfolding place
   place-more x h = simp (lt-ltb t.identity i h)
 
@@ -58,7 +57,7 @@ pub rising_down : (m n : ℕ) (l : List Target) → m ≤ n → RisingFrom n l �
 rising_down m n [] h r = tt
 rising_down m n (t ∷ l) h r = (omega arith, r.1)
 
-pub find-below : (i n : ℕ) (l : List Target) → i < n → RisingFrom n l → find i l ≡ Nothing
+pub find-below : (i n : ℕ) (l : List Target) → i < n → RisingFrom n l → find i l ≡ None
 unfolding find
 find-below i n [] h r = refl
 find-below i n (t ∷ l) h r = find-less i t l (omega arith)
@@ -71,22 +70,22 @@ find-other i t l r n = go (order i t.identity)
     go (same e) = absurd (n e)
     go (more h) = find-more i t l h
 
-ahead-same : (i : ℕ) (x : Found) (l : List Target) → find i l ≡ Nothing → find i (ahead i x l) ≡ x
+ahead-same : (i : ℕ) (x : Option Held) (l : List Target) → find i l ≡ None → find i (ahead i x l) ≡ x
 unfolding ahead
-ahead-same i Nothing l e = e
-ahead-same i (There h) l e = find-same i _ l refl
+ahead-same i None l e = e
+ahead-same i (Some h) l e = find-same i _ l refl
 
-ahead-other : (i j : ℕ) (x : Found) (l : List Target) → RisingFrom (suc i) l → j ≢ i → find j (ahead i x l) ≡ find j l
+ahead-other : (i j : ℕ) (x : Option Held) (l : List Target) → RisingFrom (suc i) l → j ≢ i → find j (ahead i x l) ≡ find j l
 unfolding ahead
-ahead-other i j Nothing l r n = refl
-ahead-other i j (There h) l r n = find-other j _ l r n
+ahead-other i j None l r n = refl
+ahead-other i j (Some h) l r n = find-other j _ l r n
 
-rising-ahead : (n i : ℕ) (x : Found) (l : List Target) → n ≤ i → RisingFrom (suc i) l → RisingFrom n (ahead i x l)
+rising-ahead : (n i : ℕ) (x : Option Held) (l : List Target) → n ≤ i → RisingFrom (suc i) l → RisingFrom n (ahead i x l)
 unfolding ahead
-rising-ahead n i Nothing l h r = rising_down n (suc i) l (omega arith) r
-rising-ahead n i (There y) l h r = (h, r)
+rising-ahead n i None l h r = rising_down n (suc i) l (omega arith) r
+rising-ahead n i (Some y) l h r = (h, r)
 
-pub rising-place : (n i : ℕ) (x : Found) (l : List Target) → n ≤ i → RisingFrom n l → RisingFrom n (place i x l)
+pub rising-place : (n i : ℕ) (x : Option Held) (l : List Target) → n ≤ i → RisingFrom n l → RisingFrom n (place i x l)
 unfolding place
 rising-place n i x [] h r = rising-ahead n i x [] h tt
 rising-place n i x (t ∷ l) h r = go (order i t.identity) (λ g. rising-place (suc t.identity) i x l g r.1)
@@ -96,7 +95,7 @@ rising-place n i x (t ∷ l) h r = go (order i t.identity) (λ g. rising-place (
     go (same e) ih = rw (place_same i t l x e) (rising-ahead n i x l h (rising_down (suc i) (suc t.identity) l (omega arith) r.1))
     go (more g) ih = rw (place-more i t l x g) (r.0, ih g)
 
-pub find-place-same : (n i : ℕ) (x : Found) (l : List Target) → RisingFrom n l → find i (place i x l) ≡ x
+pub find-place-same : (n i : ℕ) (x : Option Held) (l : List Target) → RisingFrom n l → find i (place i x l) ≡ x
 unfolding place find
 find-place-same n i x [] r = ahead-same i x [] refl
 find-place-same n i x (t ∷ l) r = go (order i t.identity) (find-place-same (suc t.identity) i x l r.1)
@@ -106,7 +105,7 @@ find-place-same n i x (t ∷ l) r = go (order i t.identity) (find-place-same (su
     go (same e) ih = rw (place_same i t l x e) (ahead-same i x l (find-below i (suc t.identity) l (omega arith) r.1))
     go (more h) ih = rw (place-more i t l x h) (find-more i t (place i x l) h ∙ ih)
 
-pub find-place-other : (n i j : ℕ) (x : Found) (l : List Target) → n ≤ i → RisingFrom n l → j ≢ i → find j (place i x l) ≡ find j l
+pub find-place-other : (n i j : ℕ) (x : Option Held) (l : List Target) → n ≤ i → RisingFrom n l → j ≢ i → find j (place i x l) ≡ find j l
 unfolding place find
 find-place-other n i j x [] g r d = ahead-other i j x [] tt d
 find-place-other n i j x (t ∷ l) g r d =
@@ -128,17 +127,17 @@ pub rising-ext : (m n : ℕ) (k l : List Target) → RisingFrom m k → RisingFr
 unfolding find
 rising-ext m n [] [] r s e = refl
 rising-ext m n [] (t ∷ l) r s e =
-    let z : ◌≡◌ {A = Found} Nothing (There t.held) = e t.identity ∙ find-same t.identity t l refl in
+    let z : ◌≡◌ {A = Option Held} None (Some t.held) = e t.identity ∙ find-same t.identity t l refl in
     cc
 rising-ext m n (t ∷ k) [] r s e =
-    let z : ◌≡◌ {A = Found} (There t.held) Nothing = sym (find-same t.identity t k refl) ∙ e t.identity in
+    let z : ◌≡◌ {A = Option Held} (Some t.held) None = sym (find-same t.identity t k refl) ∙ e t.identity in
     cc
 rising-ext m n (t ∷ k) (u ∷ l) r s e =
     go (order t.identity u.identity) (rising-ext (suc t.identity) (suc u.identity) k l r.1 s.1)
   where
     head : t.identity ≡ u.identity → t ≡ u
     head p =
-        let q : There t.held ≡ There u.held =
+        let q : Some t.held ≡ Some u.held =
         sym (find-same t.identity t k refl) ∙ e t.identity ∙ find-same t.identity u l p in
         let w : t.held ≡ u.held = cc in
         λ j. record { identity = p j; held = w j }
@@ -150,17 +149,17 @@ rising-ext m n (t ∷ k) (u ∷ l) r s e =
 
     go : Order t.identity u.identity → (((i : ℕ) → find i k ≡ find i l) → k ≡ l) → t ∷ k ≡ u ∷ l
     go (less h) ih =
-        let z : ◌≡◌ {A = Found} (There t.held) Nothing =
+        let z : ◌≡◌ {A = Option Held} (Some t.held) None =
         sym (find-same t.identity t k refl) ∙ e t.identity ∙ find-less t.identity u l h in
         cc
     go (same p) ih = ap₂ ◌∷◌ (head p) (ih (λ i. rest p i (ℕ_discrete i t.identity)))
     go (more h) ih =
-        let z : ◌≡◌ {A = Found} Nothing (There u.held) =
+        let z : ◌≡◌ {A = Option Held} None (Some u.held) =
         sym (find-less u.identity t k h) ∙ e u.identity ∙ find-same u.identity u l refl in
         cc
 
 -- what two placings at different identities leave does not depend on their order
-pub place-place : (n i j : ℕ) (x y : Found) (l : List Target) → i ≢ j → n ≤ i → n ≤ j → RisingFrom n l
+pub place-place : (n i j : ℕ) (x y : Option Held) (l : List Target) → i ≢ j → n ≤ i → n ≤ j → RisingFrom n l
     → place i x (place j y l) ≡ place j y (place i x l)
 place-place n i j x y l d hi hj r =
     rising-ext n n _ _ (rising-place n i x _ hi (rising-place n j y l hj r)) (rising-place n j y _ hj (rising-place n i x l hi r))
@@ -188,9 +187,9 @@ place-find n i l h r = rising-ext n n _ _ (rising-place n i _ l h r) r (λ k. at
     at k (no p) = find-place-other n i k (find i l) l h r p
 
 -- taking the lines away
-unfoldable pub bared_in : Found → Found
-bared_in Nothing = Nothing
-bared_in (There h) = There (bare_held h)
+unfoldable pub bared_in : Option Held → Option Held
+bared_in None = None
+bared_in (Some h) = Some (bare_held h)
 
 pub find-bared : (i : ℕ) (l : List Target) → find i (bared l) ≡ bared_in (find i l)
 unfolding bared bared_in find
@@ -198,7 +197,7 @@ find-bared i [] = refl
 find-bared i (t ∷ l) = go (ltb t.identity i) (eqb i t.identity) (find-bared i l)
   where
     go : (b c : Bool) → find i (bared l) ≡ bared_in (find i l)
-        → cond b (find i (bared l)) (cond c (There (bare_held t.held)) Nothing) ≡ bared_in (cond b (find i l) (cond c (There t.held) Nothing))
+        → cond b (find i (bared l)) (cond c (Some (bare_held t.held)) None) ≡ bared_in (cond b (find i l) (cond c (Some t.held) None))
     go true c ih = ih
     go false true ih = refl
     go false false ih = refl
@@ -213,17 +212,17 @@ unfolding bared
 length-bared [] = refl
 length-bared (t ∷ l) = ap suc (length-bared l)
 
-length-ahead : (i : ℕ) (x : Found) (l : List Target) → length (ahead i x l) ≤ suc (length l)
+length-ahead : (i : ℕ) (x : Option Held) (l : List Target) → length (ahead i x l) ≤ suc (length l)
 unfolding ahead
-length-ahead i Nothing l = omega arith
-length-ahead i (There h) l = omega arith
+length-ahead i None l = omega arith
+length-ahead i (Some h) l = omega arith
 
-length-ahead-nothing : (i : ℕ) (l : List Target) → length (ahead i Nothing l) ≡ length l
+length-ahead-nothing : (i : ℕ) (l : List Target) → length (ahead i None l) ≡ length l
 unfolding ahead
 length-ahead-nothing i l = refl
 
 -- how long the list is after a placing
-pub length-place : (i : ℕ) (x : Found) (l : List Target) → length (place i x l) ≤ suc (length l)
+pub length-place : (i : ℕ) (x : Option Held) (l : List Target) → length (place i x l) ≤ suc (length l)
 unfolding place
 length-place i x [] = length-ahead i x []
 length-place i x (t ∷ l) = go (order i t.identity) (length-place i x l)
@@ -233,37 +232,37 @@ length-place i x (t ∷ l) = go (order i t.identity) (length-place i x l)
     go (same e) ih = rw (place_same i t l x e) (omega (arith, length-ahead i x l))
     go (more h) ih = rw (place-more i t l x h) (omega arith)
 
-pub length-place-nothing : (i : ℕ) (l : List Target) → length (place i Nothing l) ≤ length l
+pub length-place-nothing : (i : ℕ) (l : List Target) → length (place i None l) ≤ length l
 unfolding place
 length-place-nothing i [] = omega (arith, length-ahead-nothing i [])
 length-place-nothing i (t ∷ l) = go (order i t.identity) (length-place-nothing i l)
   where
-    go : Order i t.identity → length (place i Nothing l) ≤ length l → length (place i Nothing (t ∷ l)) ≤ suc (length l)
-    go (less h) ih = rw (place-less i t l Nothing h) (omega (arith, length-ahead-nothing i (t ∷ l)))
-    go (same e) ih = rw (place_same i t l Nothing e) (omega (arith, length-ahead-nothing i l))
-    go (more h) ih = rw (place-more i t l Nothing h) (omega arith)
+    go : Order i t.identity → length (place i None l) ≤ length l → length (place i None (t ∷ l)) ≤ suc (length l)
+    go (less h) ih = rw (place-less i t l None h) (omega (arith, length-ahead-nothing i (t ∷ l)))
+    go (same e) ih = rw (place_same i t l None e) (omega (arith, length-ahead-nothing i l))
+    go (more h) ih = rw (place-more i t l None h) (omega arith)
 
-pub length-place-held : (i : ℕ) (x : Found) (h : Held) (l : List Target) → find i l ≡ There h
+pub length-place-held : (i : ℕ) (x : Option Held) (h : Held) (l : List Target) → find i l ≡ Some h
     → length (place i x l) ≤ length l
 unfolding place find
 length-place-held i x h [] e = let z : ◌≡◌ {A = ℕ} 0 1 = cc in omega arith
 length-place-held i x h (t ∷ l) e = go (order i t.identity) (length-place-held i x h l)
   where
-    go : Order i t.identity → (find i l ≡ There h → length (place i x l) ≤ length l) → length (place i x (t ∷ l)) ≤ suc (length l)
+    go : Order i t.identity → (find i l ≡ Some h → length (place i x l) ≤ length l) → length (place i x (t ∷ l)) ≤ suc (length l)
     go (less g) ih =
-        let p : find i (t ∷ l) ≡ Nothing = find-less i t l g in
+        let p : find i (t ∷ l) ≡ None = find-less i t l g in
         let z : ◌≡◌ {A = ℕ} 0 1 = cc in
         omega arith
     go (same p) ih = rw (place_same i t l x p) (length-ahead i x l)
     go (more g) ih = rw (place-more i t l x g) (omega (arith, ih (sym (find-more i t l g) ∙ e)))
 
 -- to take away what is not there changes nothing
-pub place-absent : (i : ℕ) (l : List Target) → find i l ≡ Nothing → place i Nothing l ≡ l
+pub place-absent : (i : ℕ) (l : List Target) → find i l ≡ None → place i None l ≡ l
 unfolding place ahead find
 place-absent i [] e = refl
 place-absent i (t ∷ l) e = go (order i t.identity) (place-absent i l)
   where
-    go : Order i t.identity → (find i l ≡ Nothing → place i Nothing l ≡ l) → place i Nothing (t ∷ l) ≡ t ∷ l
-    go (less h) ih = place-less i t l Nothing h
-    go (same p) ih = let z : ◌≡◌ {A = Found} (There t.held) Nothing = sym (find-same i t l p) ∙ e in cc
-    go (more h) ih = place-more i t l Nothing h ∙ ap (λ (k : List Target). t ∷ k) (ih (sym (find-more i t l h) ∙ e))
+    go : Order i t.identity → (find i l ≡ None → place i None l ≡ l) → place i None (t ∷ l) ≡ t ∷ l
+    go (less h) ih = place-less i t l None h
+    go (same p) ih = let z : ◌≡◌ {A = Option Held} (Some t.held) None = sym (find-same i t l p) ∙ e in cc
+    go (more h) ih = place-more i t l None h ∙ ap (λ (k : List Target). t ∷ k) (ih (sym (find-more i t l h) ∙ e))

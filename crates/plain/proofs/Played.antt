@@ -8,7 +8,7 @@ use lib.Seq.{take_all}
 use Prim.Native.Nat.{ℕ, ◌≤◌}
 use Rattle.plain.specs.declared.state.Board.{Board}
 use Rattle.plain.specs.declared.call.Call.{Call}
-use Rattle.plain.specs.declared.call.Answer.{Answer}
+use Rattle.plain.specs.Call.{Answer}
 use Rattle.plain.specs.Board.{Plain, fresh, answer, accepted, outcome, after, run, answers}
 use Rattle.plain.specs.Code.{plain, cut, Played, ended, then, paired, RunsAlike, Demanded}
 use Rattle.plain.specs.Asking.{mean, pick}

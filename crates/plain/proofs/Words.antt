@@ -1,9 +1,9 @@
 -- The last accepted report in words: `last_report` gives v exactly when v was reported last and not withdrawn since.
+use Rattle.std.specs.Prelude.{Option, Some, None}
 use Prim.Native.Nat.{ℕ}
 use mathlib.Core.Bool.{Bool, true, false, ◌&&◌}
 use mathlib.Core.List.{List, [], ◌∷◌, ◌++◌, append_assoc, append-nil}
 use mathlib.Core.Logic.{◌↔◌}
-use mathlib.Core.Option.{Option, some, none}
 use mathlib.Core.Path.{◌≡◌, refl, sym, ◌∙◌, ap, subst}
 use lib.Dec.{eqb}
 use borrow.Author.Tests.{eq-eqb, eqb-true}
@@ -11,8 +11,7 @@ use Rattle.jord.specs.declared.vehicle.Vehicle.{Vehicle}
 use Rattle.plain.specs.declared.call.Fix.{Fix}
 use Rattle.plain.specs.declared.call.Call.{Call}
 use Rattle.plain.specs.declared.call.Call.TheVariants.{Report, Withdraw, OwnShip, Track, Solve}
-use Rattle.plain.specs.declared.call.Answer.{Answer}
-use Rattle.plain.specs.Call.{vehicle}
+use Rattle.plain.specs.Call.{Answer, vehicle}
 use Rattle.plain.specs.History.{Heard, accepts, speaks_of, Quiet, LastReported}
 use Rattle.plain.proofs.History.{new_report, hear_report, last_report}
 
@@ -20,8 +19,8 @@ use Rattle.plain.proofs.History.{new_report, hear_report, last_report}
 data Says (i : ℕ) (h : Heard) : Type 0 where
   nothing : accepts h.reply && speaks_of i h.call ≡ false → ((x : Option Vehicle) → hear_report i h.call h.reply x ≡ x) → Says i h
   reports : (f : Fix) → accepts h.reply && speaks_of i h.call ≡ true → h.call ≡ Report i f → accepts h.reply ≡ true
-      → ((x : Option Vehicle) → hear_report i h.call h.reply x ≡ some (vehicle f)) → Says i h
-  withdraws : accepts h.reply && speaks_of i h.call ≡ true → ((x : Option Vehicle) → hear_report i h.call h.reply x ≡ none) → Says i h
+      → ((x : Option Vehicle) → hear_report i h.call h.reply x ≡ Some (vehicle f)) → Says i h
+  withdraws : accepts h.reply && speaks_of i h.call ≡ true → ((x : Option Vehicle) → hear_report i h.call h.reply x ≡ None) → Says i h
 
 says-new : (i : ℕ) (c : Call) (a : Answer) → accepts a ≡ true → ((x : Option Vehicle) → hear_report i c a x ≡ new_report i c x)
     → Says i (record { call = c; reply = a })
@@ -83,13 +82,13 @@ reported-now i f hs h e ok =
 
 -- what the report told so far means
 abbrev Told : ℕ → Option Vehicle → List Heard → Type 0
-Told i none hs = Unit {0}
-Told i (some v) hs = LastReported i v hs
+Told i None hs = Unit {0}
+Told i (Some v) hs = LastReported i v hs
 
 told-quiet : (i : ℕ) (x : Option Vehicle) (hs : List Heard) (h : Heard) → Told i x hs → accepts h.reply && speaks_of i h.call ≡ false
     → Told i x (hs ++ (h ∷ []))
-told-quiet i none hs h t e = tt
-told-quiet i (some v) hs h t e = reported-snoc i v hs h t e
+told-quiet i None hs h t e = tt
+told-quiet i (Some v) hs h t e = reported-snoc i v hs h t e
 
 told-next : (i : ℕ) (x : Option Vehicle) (hs : List Heard) (h : Heard) → Told i x hs → Told i (hear_report i h.call h.reply x) (hs ++ (h ∷ []))
 told-next i x hs h t = go (says i h.call h.reply)
@@ -106,7 +105,7 @@ told-after i x before (h ∷ hs) t =
     subst (λ (k : List Heard). Told i (last_report i (hear_report i h.call h.reply x) hs) k) (append_assoc before (h ∷ []) hs)
     (told-after i (hear_report i h.call h.reply x) (before ++ (h ∷ [])) hs (told-next i x before h t))
 
-told-some : (i : ℕ) (x : Option Vehicle) (hs : List Heard) (v : Vehicle) → Told i x hs → x ≡ some v → LastReported i v hs
+told-some : (i : ℕ) (x : Option Vehicle) (hs : List Heard) (v : Vehicle) → Told i x hs → x ≡ Some v → LastReported i v hs
 told-some i x hs v t e = subst (λ (y : Option Vehicle). Told i y hs) e t
 
 -- ---- and back
@@ -130,18 +129,18 @@ unfolding last_report
 last-append i x [] ks = refl
 last-append i x (h ∷ hs) ks = last-append i (hear_report i h.call h.reply x) hs ks
 
-heard-report : (i : ℕ) (f : Fix) (a : Answer) (x : Option Vehicle) → accepts a ≡ true → hear_report i (Report i f) a x ≡ some (vehicle f)
+heard-report : (i : ℕ) (f : Fix) (a : Answer) (x : Option Vehicle) → accepts a ≡ true → hear_report i (Report i f) a x ≡ Some (vehicle f)
 unfolding hear_report new_report
 heard-report i f a x e = rw (e, eq-eqb i i refl)
 
-back : (i : ℕ) (v : Vehicle) (hs : List Heard) → LastReported i v hs → last_report i none hs ≡ some v
+back : (i : ℕ) (v : Vehicle) (hs : List Heard) → LastReported i v hs → last_report i None hs ≡ Some v
 unfolding last_report
 back i v hs l =
-    ap (last_report i none) l.split
-    ∙ last-append i none l.before (record { call = Report i l.fix; reply = l.reply } ∷ l.since)
+    ap (last_report i None) l.split
+    ∙ last-append i None l.before (record { call = Report i l.fix; reply = l.reply } ∷ l.since)
     ∙ quiet-last i _ l.since l.quiet
     ∙ heard-report i l.fix l.reply _ l.accepted
-    ∙ ap some (sym l.of_fix)
+    ∙ ap Some (sym l.of_fix)
 
-pub last-reported : (i : ℕ) (v : Vehicle) (hs : List Heard) → (last_report i none hs ≡ some v) ↔ LastReported i v hs
-last-reported i v hs = (λ e. told-some i (last_report i none hs) hs v (told-after i none [] hs tt) e, λ l. back i v hs l)
+pub last-reported : (i : ℕ) (v : Vehicle) (hs : List Heard) → (last_report i None hs ≡ Some v) ↔ LastReported i v hs
+last-reported i v hs = (λ e. told-some i (last_report i None hs) hs v (told-after i None [] hs tt) e, λ l. back i v hs l)

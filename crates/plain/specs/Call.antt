@@ -1,6 +1,5 @@
 -- What is made of the numbers handed over, the target that a call names, and the number and values of each answer. Definitions only.
-use Rattle.std.specs.Prelude.{ℕ}
-use Rattle.std.proofs.Math.Option.{Option, some, none}
+use Rattle.std.specs.Prelude.{ℕ, Option, Some, None, Result, Ok, Err}
 use Rattle.jord.specs.Angle.{from_radians}
 use Rattle.jord.specs.Positions.{nvector_new}
 use Rattle.jord.specs.Speed.{from_metres_per_second}
@@ -8,18 +7,19 @@ use Rattle.vectors.specs.Vec3 as vec3
 use Rattle.jord.specs.Vehicle as vehicles
 use Rattle.jord.specs.declared.positions.NVector.{NVector}
 use Rattle.jord.specs.declared.vehicle.Vehicle.{Vehicle}
+use Rattle.plain.specs.declared.line.Line.{Line}
 use Rattle.plain.specs.declared.line.Ends.{Ends}
-use Rattle.plain.specs.declared.targets.Lined.{Lined}
-use Rattle.plain.specs.declared.targets.Lined.TheVariants.{Bare, With}
 use Rattle.plain.specs.declared.call.Coordinates.{Coordinates}
 use Rattle.plain.specs.declared.call.Fix.{Fix}
 use Rattle.plain.specs.declared.call.Call.{Call}
 use Rattle.plain.specs.declared.call.Call.TheVariants.{Report, Withdraw, OwnShip, Track, Solve}
-use Rattle.plain.specs.declared.call.Answer.{Answer}
-use Rattle.plain.specs.declared.call.Answer.TheVariants.{Done, Solved, Refused}
 use Rattle.plain.specs.declared.call.Refusal.{Refusal}
 use Rattle.plain.specs.declared.call.Refusal.TheVariants.{RadiusNotPositive, IdentityZero, NotFinite, NotUnit, SpeedNegative, NoGreatCircle}
 use Rattle.plain.specs.declared.call.Refusal.TheVariants.{NotHeld, BoardFull, NoOwnShip, NoTrack, NoMeeting}
+
+-- what a board answers to a call: done, with the line of a solve, or refused
+abbrev pub Answer : Type 0
+Answer = Result (Option Line) Refusal
 
 -- "Three numbers handed over as a position pass through `Vec3::new`"
 abbrev pub position : Coordinates → NVector
@@ -34,11 +34,11 @@ ends s e = record { start = position s; end = position e }
 
 -- "Report, withdraw and solve name a target by the identity handed over, held or not"
 unfoldable pub named : Call → Option ℕ
-named (Report i f) = some i
-named (Withdraw i) = some i
-named (OwnShip f) = none
-named (Track s e) = none
-named (Solve i) = some i
+named (Report i f) = Some i
+named (Withdraw i) = Some i
+named (OwnShip f) = None
+named (Track s e) = None
+named (Solve i) = Some i
 
 -- "the first no gives its number"
 abbrev pub number_of : Refusal → ℕ
@@ -56,12 +56,10 @@ number_of NoMeeting = 19
 
 -- the number of an answer to a call; 0 is done
 abbrev pub answer_number : Answer → ℕ
-answer_number Done = 0
-answer_number (Solved l) = 0
-answer_number (Refused r) = number_of r
+answer_number (Ok l) = 0
+answer_number (Err r) = number_of r
 
 -- the values of an answer: "Solve: makes, stores and returns that target's line"; no other answer has any
-abbrev pub answer_line : Answer → Lined
-answer_line Done = Bare
-answer_line (Solved l) = With l
-answer_line (Refused r) = Bare
+abbrev pub answer_line : Answer → Option Line
+answer_line (Ok l) = l
+answer_line (Err r) = None

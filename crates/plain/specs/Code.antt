@@ -3,7 +3,7 @@ use Rattle.std.specs.Prelude.{ℕ, ◌≤◌, false, List, [], ◌∷◌, ◌≡
 use Rattle.plain.specs.declared.state.Board.{Board}
 use Rattle.plain.specs.declared.state.Answered.{Answered}
 use Rattle.plain.specs.declared.call.Call.{Call}
-use Rattle.plain.specs.declared.call.Answer.{Answer}
+use Rattle.plain.specs.Call.{Answer}
 use Rattle.plain.specs.Targets.{most_targets, listed}
 use Rattle.plain.specs.Board.{Plain, fresh, answer, after, run, answers}
 use Rattle.plain.specs.Asking.{mean, pick}

@@ -1,16 +1,12 @@
 -- Demand 3, as one claim about a list of calls from a fresh board. Definitions only.
-use Rattle.std.specs.Prelude.{ℕ, ◌≤◌, ◌%◌, List, [], ◌∷◌, ◌↔◌, ◌≡◌, Float, length}
+use Rattle.std.specs.Prelude.{ℕ, ◌≤◌, ◌%◌, List, [], ◌∷◌, ◌↔◌, ◌≡◌, Float, length, Option, Some, None, Ok, Err}
 use Rattle.jord.specs.declared.vehicle.Vehicle.{Vehicle}
 use Rattle.walks.specs.Outcome.{count_of}
 use Rattle.walks.specs.Counts.{Counted}
 use Rattle.plain.specs.declared.line.Line.{Line}
-use Rattle.plain.specs.declared.targets.Lined.{Lined}
-use Rattle.plain.specs.declared.targets.Lined.TheVariants.{Bare, With}
 use Rattle.plain.specs.declared.targets.Held.{Held}
-use Rattle.plain.specs.declared.targets.Found.TheVariants.{There}
 use Rattle.plain.specs.declared.call.Call.{Call}
-use Rattle.plain.specs.declared.call.Answer.{Answer}
-use Rattle.plain.specs.declared.call.Answer.TheVariants.{Done, Solved, Refused}
+use Rattle.plain.specs.Call.{Answer}
 use Rattle.plain.specs.Line.{totals}
 use Rattle.plain.specs.Targets.{most_targets, find, RisingFrom}
 use Rattle.plain.specs.Board.{Plain, fresh, run, answers}
@@ -26,26 +22,26 @@ pub record CountsFit (l : Line) : Type 0 where
 
 -- each step count of the line in an answer, if there is one, is from 1 to 50
 abbrev pub AnswerFits : Answer → Type 0
-AnswerFits Done = Unit {0}
-AnswerFits (Solved l) = CountsFit l
-AnswerFits (Refused r) = Unit {0}
+AnswerFits (Ok None) = Unit {0}
+AnswerFits (Ok (Some l)) = CountsFit l
+AnswerFits (Err r) = Unit {0}
 
 abbrev pub AnswersFit : List Answer → Type 0
 AnswersFit [] = Unit {0}
 AnswersFit (a ∷ rest) = AnswerFits a × AnswersFit rest
 
 -- each step count of a target's line, if it has one, is from 1 to 50
-abbrev pub LineFits : Lined → Type 0
-LineFits Bare = Unit {0}
-LineFits (With l) = CountsFit l
+abbrev pub LineFits : Option Line → Type 0
+LineFits None = Unit {0}
+LineFits (Some l) = CountsFit l
 
 -- target i stands on the board, with this held of it
 abbrev pub Holds : Plain → ℕ → Held → Type 0
-Holds b i h = find i b.targets ≡ There h
+Holds b i h = find i b.targets ≡ Some h
 
 -- target i stands on the board, with this report
 pub record Stands (b : Plain) (i : ℕ) (v : Vehicle) : Type 0 where
-  pub line : Lined
+  pub line : Option Line
   pub there : Holds b i (record { report = v; line = line })
 
 -- "The two are alike in the board they leave, in its mean position and in the answer to each call"; "Two passes that differ only by demand
@@ -67,7 +63,7 @@ pub record Demand3 (r : Float) (cs : List Call) : Type 0 where
   -- "a target stands on the board exactly when it has an accepted report and was not withdrawn since", "with its last accepted report"
   pub stands : (i : ℕ) (v : Vehicle) → Stands (run (fresh r) cs) i v ↔ LastReported i v (heard (fresh r) cs)
   -- "and the line, or none, that the plain board gives": that of its last solve, if nothing took it away since
-  pub line : (i : ℕ) (h : Held) → Holds (run (fresh r) cs) i h → h.line ≡ last_line i Bare (heard (fresh r) cs)
+  pub line : (i : ℕ) (h : Held) → Holds (run (fresh r) cs) i h → h.line ≡ last_line i None (heard (fresh r) cs)
   -- "Each step count in a line is from 1 to 50": in each line that a call returns
   pub counts_handed_out : AnswersFit (answers (fresh r) cs)
   -- "Each step count in a line is from 1 to 50": in each line that stands on the board

@@ -1,6 +1,5 @@
 -- Lists made by exchanging neighbours that name different targets. Definitions only.
-use Rattle.std.specs.Prelude.{ℕ, zero, suc, Bool, true, false, cond, List, [], ◌∷◌, ◌≢◌, ◌≡◌, eqb}
-use Rattle.std.proofs.Math.Option.{Option, some, none}
+use Rattle.std.specs.Prelude.{ℕ, zero, suc, Bool, true, false, cond, List, [], ◌∷◌, ◌≢◌, ◌≡◌, eqb, Option, Some, None}
 use Rattle.plain.specs.declared.call.Call.{Call}
 use Rattle.plain.specs.Call.{named}
 
@@ -11,8 +10,8 @@ among i [] = false
 among i (x ∷ l) = cond (eqb i x) true (among i l)
 
 unfoldable pub with_named : Option ℕ → List ℕ → List ℕ
-with_named none l = l
-with_named (some i) l = cond (eqb i 0) l (cond (among i l) l (i ∷ l))
+with_named None l = l
+with_named (Some i) l = cond (eqb i 0) l (cond (among i l) l (i ∷ l))
 
 -- the identities that the calls name, each once. 0 is no identity (number 3) and is not counted
 unfoldable pub identities : List Call → List ℕ
@@ -37,8 +36,8 @@ exchanged (p ∷ ps) l = exchanged ps (swapped p l)
 pub record Apart (c d : Call) : Type 0 where
   pub one : ℕ
   pub other : ℕ
-  pub names_one : named c ≡ some one
-  pub names_other : named d ≡ some other
+  pub names_one : named c ≡ Some one
+  pub names_other : named d ≡ Some other
   pub different : one ≢ other
 
 -- the neighbours at places p and p + 1 are there, and name different targets

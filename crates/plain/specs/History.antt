@@ -1,15 +1,12 @@
 -- What a list of calls says of a target and hands out, told from the calls and their answers alone: no board is asked. Definitions only.
-use Rattle.std.specs.Prelude.{ℕ, ◌+◌, Bool, true, false, cond, ◌&&◌, List, [], ◌∷◌, ◌++◌, ◌≡◌, eqb}
+use Rattle.std.specs.Prelude.{ℕ, ◌+◌, Bool, true, false, cond, ◌&&◌, List, [], ◌∷◌, ◌++◌, ◌≡◌, eqb, Option, Some, None, Ok, Err}
 use Rattle.jord.specs.declared.vehicle.Vehicle.{Vehicle}
-use Rattle.plain.specs.declared.targets.Lined.{Lined}
-use Rattle.plain.specs.declared.targets.Lined.TheVariants.{Bare, With}
+use Rattle.plain.specs.declared.line.Line.{Line}
 use Rattle.plain.specs.declared.call.Fix.{Fix}
 use Rattle.plain.specs.declared.call.Call.{Call}
 use Rattle.plain.specs.declared.call.Call.TheVariants.{Report, Withdraw, OwnShip, Track, Solve}
-use Rattle.plain.specs.declared.call.Answer.{Answer}
-use Rattle.plain.specs.declared.call.Answer.TheVariants.{Done, Solved, Refused}
 use Rattle.plain.specs.Line.{counts}
-use Rattle.plain.specs.Call.{vehicle}
+use Rattle.plain.specs.Call.{Answer, vehicle}
 use Rattle.plain.specs.Board.{Plain, answer, after}
 
 -- a call with its answer
@@ -24,17 +21,16 @@ heard b (c ∷ cs) = record { call = c; reply = answer b c } ∷ heard (after b 
 
 -- "A call is accepted when the plain board doesn't refuse it"
 abbrev pub accepts : Answer → Bool
-accepts Done = true
-accepts (Solved l) = true
-accepts (Refused r) = false
+accepts (Ok l) = true
+accepts (Err r) = false
 
 -- ---- the counts handed out
 
 -- "Counts handed out are all those in lines that calls of the list returned"
 unfoldable pub given : Answer → ℕ
-given Done = 0
-given (Solved l) = counts l
-given (Refused r) = 0
+given (Ok None) = 0
+given (Ok (Some l)) = counts l
+given (Err r) = 0
 
 unfoldable pub handed_out : List Answer → ℕ
 handed_out [] = 0
@@ -69,23 +65,23 @@ pub record LastReported (i : ℕ) (v : Vehicle) (hs : List Heard) : Type 0 where
 
 -- ---- the line of target i: a solve of it gives it; a report and a withdrawal of it, an own ship and a track take it away
 
-unfoldable pub line_given : Answer → Lined → Lined
-line_given Done x = x
-line_given (Solved l) x = With l
-line_given (Refused r) x = x
+unfoldable pub line_given : Answer → Option Line → Option Line
+line_given (Ok None) x = x
+line_given (Ok (Some l)) x = Some l
+line_given (Err r) x = x
 
-unfoldable pub new_line : ℕ → Call → Answer → Lined → Lined
-new_line i (Report j f) a x = cond (eqb i j) Bare x
-new_line i (Withdraw j) a x = cond (eqb i j) Bare x
-new_line i (OwnShip f) a x = Bare
-new_line i (Track s e) a x = Bare
+unfoldable pub new_line : ℕ → Call → Answer → Option Line → Option Line
+new_line i (Report j f) a x = cond (eqb i j) None x
+new_line i (Withdraw j) a x = cond (eqb i j) None x
+new_line i (OwnShip f) a x = None
+new_line i (Track s e) a x = None
 new_line i (Solve j) a x = cond (eqb i j) (line_given a x) x
 
 -- a refused call makes nothing of it
-unfoldable pub hear_line : ℕ → Call → Answer → Lined → Lined
+unfoldable pub hear_line : ℕ → Call → Answer → Option Line → Option Line
 hear_line i c a x = cond (accepts a) (new_line i c a x) x
 
 -- what the list makes of the line x
-unfoldable pub last_line : ℕ → Lined → List Heard → Lined
+unfoldable pub last_line : ℕ → Option Line → List Heard → Option Line
 last_line i x [] = x
 last_line i x (h ∷ later) = last_line i (hear_line i h.call h.reply x) later

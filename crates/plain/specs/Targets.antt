@@ -1,12 +1,9 @@
 -- Targets in rising identity: what stands under an identity, a target put in its place, and lines taken away. Definitions only.
 -- A list is read from the front up to the first identity that is not below the one sought.
-use Rattle.std.specs.Prelude.{ℕ, suc, ◌≤◌, cond, List, [], ◌∷◌, ltb, eqb, take}
-use Rattle.plain.specs.declared.targets.Lined.TheVariants.{Bare}
+use Rattle.std.specs.Prelude.{ℕ, suc, ◌≤◌, cond, List, [], ◌∷◌, ltb, eqb, take, Option, Some, None}
 use Rattle.plain.specs.declared.targets.Held.{Held}
 use Rattle.plain.specs.declared.targets.Target.{Target}
 use Rattle.plain.specs.declared.targets.Targets.{Targets}
-use Rattle.plain.specs.declared.targets.Found.{Found}
-use Rattle.plain.specs.declared.targets.Found.TheVariants.{Nothing, There}
 
 -- "are fewer than 64 held?": the room of a board
 abbrev pub most_targets : ℕ
@@ -15,24 +12,24 @@ most_targets = 64
 -- ---- on lists
 
 -- what the list holds under an identity
-unfoldable pub find : ℕ → List Target → Found
-find i [] = Nothing
-find i (t ∷ l) = cond (ltb t.identity i) (find i l) (cond (eqb i t.identity) (There t.held) Nothing)
+unfoldable pub find : ℕ → List Target → Option Held
+find i [] = None
+find i (t ∷ l) = cond (ltb t.identity i) (find i l) (cond (eqb i t.identity) (Some t.held) None)
 
 -- a target before the rest, or no target
-unfoldable pub ahead : ℕ → Found → List Target → List Target
-ahead i Nothing l = l
-ahead i (There h) l = record { identity = i; held = h } ∷ l
+unfoldable pub ahead : ℕ → Option Held → List Target → List Target
+ahead i None l = l
+ahead i (Some h) l = record { identity = i; held = h } ∷ l
 
 -- "places or replaces that target" or "removes it": the list with this under the identity, in its place in the rising order
-unfoldable pub place : ℕ → Found → List Target → List Target
+unfoldable pub place : ℕ → Option Held → List Target → List Target
 place i x [] = ahead i x []
 place i x (t ∷ l) =
     cond (ltb t.identity i) (t ∷ place i x l) (cond (eqb i t.identity) (ahead i x l) (ahead i x (t ∷ l)))
 
 -- "take every line away"
 abbrev pub bare_held : Held → Held
-bare_held h = record { report = h.report; line = Bare }
+bare_held h = record { report = h.report; line = None }
 
 abbrev pub bare_target : Target → Target
 bare_target t = record { identity = t.identity; held = bare_held t.held }

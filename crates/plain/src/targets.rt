@@ -5,18 +5,11 @@ use jord::vehicle::Vehicle;
 // The room of a board.
 pub const MOST_TARGETS: usize = 64;
 
-// A line, or none.
-#[derive(Clone, Copy)]
-pub enum Lined {
-    Bare,
-    With(Line),
-}
-
 // What is held of a target: its last accepted report, and its line or none.
 #[derive(Clone, Copy)]
 pub struct Held {
     pub report: Vehicle,
-    pub line: Lined,
+    pub line: Option<Line>,
 }
 
 // A target.
@@ -31,11 +24,4 @@ pub struct Target {
 pub struct Targets {
     pub entries: [Target; MOST_TARGETS],
     pub count: usize,
-}
-
-// What is held under an identity.
-#[derive(Clone, Copy)]
-pub enum Found {
-    Nothing,
-    There(Held),
 }

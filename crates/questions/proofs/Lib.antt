@@ -1,2 +1,3 @@
 pub mod Wrapping
 pub mod Finiteness
+pub mod Chains

@@ -5,14 +5,12 @@ ghost use Rattle.std.specs.Prelude.{◌≡◌};
 ghost use Rattle.plain.specs.Questions as spec;
 
 use crate::call::position;
-use crate::line::solve_line;
 use jord::positions::NVector;
+use jord::vehicle::Vehicle;
 use patterns::magnitude;
-use plain::call::{Answer, Coordinates, Fix, Refusal};
-use plain::line::Scene;
-use plain::questions::{Said, Seen};
-use plain::state::{Own, Tracked};
-use plain::targets::{Found, MOST_TARGETS};
+use plain::call::{Coordinates, Fix, Refusal};
+use plain::line::{Ends, Scene};
+use plain::targets::{Held, MOST_TARGETS};
 use spherical::sphere::Sphere;
 
 pub mod call;
@@ -21,21 +19,11 @@ pub mod line;
 // The magnitude that the squared length of a position may be off one: 2^-40.
 const SLACK: f64 = 9.094947017729282e-13;
 
-// The question's no, or what the questions after it come to.
-pub fn ask(said: Said, answer: Answer) -> Answer
-    ensures { result ≡ spec.ask said answer }
-{
-    match said {
-        Said::No(refusal) => Answer::Refused(refusal),
-        Said::Yes => answer,
-    }
-}
-
 // Yes where it is so, else no.
-fn unless(so: bool, refusal: Refusal) -> Said
+fn unless(so: bool, refusal: Refusal) -> Result<(), Refusal>
     ensures { result ≡ spec.unless so refusal }
 {
-    if so { Said::Yes } else { Said::No(refusal) }
+    if so { Ok(()) } else { Err(refusal) }
 }
 
 // Whether x is neither a NaN nor infinite.
@@ -60,21 +48,21 @@ fn unit(p: NVector) -> bool
 }
 
 // Is the radius finite and above zero?
-pub fn radius_asked(radius: f64) -> Said
+pub fn radius_asked(radius: f64) -> Result<(), Refusal>
     ensures { result ≡ spec.radius_asked radius }
 {
     unless(finite(radius) & (0.0 < radius), Refusal::RadiusNotPositive)
 }
 
 // Is the identity other than 0?
-pub fn identity_asked(identity: u16) -> Said
+pub fn identity_asked(identity: u16) -> Result<(), Refusal>
     ensures { result ≡ spec.identity_asked identity }
 {
     unless(identity != 0, Refusal::IdentityZero)
 }
 
 // Are all numbers of the fix finite?
-fn fix_finite_asked(fix: Fix) -> Said
+fn fix_finite_asked(fix: Fix) -> Result<(), Refusal>
     ensures { result ≡ spec.fix_finite_asked fix }
 {
     let at = fix.position;
@@ -85,7 +73,7 @@ fn fix_finite_asked(fix: Fix) -> Said
 }
 
 // Is the position of the fix of length one?
-fn fix_unit_asked(fix: Fix) -> Said
+fn fix_unit_asked(fix: Fix) -> Result<(), Refusal>
     ensures { result ≡ spec.fix_unit_asked fix }
 {
     let at = fix.position;
@@ -93,31 +81,30 @@ fn fix_unit_asked(fix: Fix) -> Said
 }
 
 // Is the speed zero or more?
-fn speed_asked(fix: Fix) -> Said
+fn speed_asked(fix: Fix) -> Result<(), Refusal>
     ensures { result ≡ spec.speed_asked fix }
 {
     unless(0.0 <= fix.speed, Refusal::SpeedNegative)
 }
 
-// The questions of a fix, then those after it.
-pub fn ask_fix(fix: Fix, answer: Answer) -> Answer
-    ensures { result ≡ spec.ask_fix fix answer }
+// The questions of a fix, in their order.
+pub fn fix_asked(fix: Fix) -> Result<(), Refusal>
+    ensures { result ≡ spec.fix_asked fix }
 {
-    ask(
-        fix_finite_asked(fix),
-        ask(fix_unit_asked(fix), ask(speed_asked(fix), answer)),
-    )
+    fix_finite_asked(fix)?;
+    fix_unit_asked(fix)?;
+    speed_asked(fix)
 }
 
 // Are all numbers of the two positions finite?
-fn ends_finite_asked(start: Coordinates, end: Coordinates) -> Said
+fn ends_finite_asked(start: Coordinates, end: Coordinates) -> Result<(), Refusal>
     ensures { result ≡ spec.ends_finite_asked start end }
 {
     unless(all_finite(start) & all_finite(end), Refusal::NotFinite)
 }
 
 // Are both positions of length one?
-fn ends_unit_asked(start: Coordinates, end: Coordinates) -> Said
+fn ends_unit_asked(start: Coordinates, end: Coordinates) -> Result<(), Refusal>
     ensures { result ≡ spec.ends_unit_asked start end }
 {
     unless(
@@ -127,7 +114,7 @@ fn ends_unit_asked(start: Coordinates, end: Coordinates) -> Said
 }
 
 // Are the ends a great circle?
-fn circle_asked(start: Coordinates, end: Coordinates) -> Said
+fn circle_asked(start: Coordinates, end: Coordinates) -> Result<(), Refusal>
     ensures { result ≡ spec.circle_asked start end }
 {
     unless(
@@ -136,66 +123,36 @@ fn circle_asked(start: Coordinates, end: Coordinates) -> Said
     )
 }
 
-// The questions of a track, then those after it.
-pub fn ask_ends(start: Coordinates, end: Coordinates, answer: Answer) -> Answer
-    ensures { result ≡ spec.ask_ends start end answer }
+// The questions of a track, in their order.
+pub fn ends_asked(start: Coordinates, end: Coordinates) -> Result<(), Refusal>
+    ensures { result ≡ spec.ends_asked start end }
 {
-    ask(
-        ends_finite_asked(start, end),
-        ask(
-            ends_unit_asked(start, end),
-            ask(circle_asked(start, end), answer),
-        ),
-    )
+    ends_finite_asked(start, end)?;
+    ends_unit_asked(start, end)?;
+    circle_asked(start, end)
 }
 
 // Does the board hold this identity?
-pub fn held_asked(found: Found) -> Said
+pub fn held_asked(found: Option<Held>) -> Result<(), Refusal>
     ensures { result ≡ spec.held_asked found }
 {
-    match found {
-        Found::Nothing => Said::No(Refusal::NotHeld),
-        Found::There(_) => Said::Yes,
-    }
+    unless(found.is_some(), Refusal::NotHeld)
 }
 
 // Is the identity held, or are fewer than 64 held?
-pub fn room_asked(found: Found, count: usize) -> Said
+pub fn room_asked(found: Option<Held>, count: usize) -> Result<(), Refusal>
     ensures { result ≡ spec.room_asked found count }
 {
-    match found {
-        Found::Nothing => unless(count < MOST_TARGETS, Refusal::BoardFull),
-        Found::There(_) => Said::Yes,
-    }
+    unless(found.is_some() || count < MOST_TARGETS, Refusal::BoardFull)
 }
 
 // Does the board hold this identity? Has an own ship been set? A track? What a solve then sees.
-pub fn see(found: Found, own: Own, track: Tracked) -> Seen
+pub fn see(found: Option<Held>, own: Option<Vehicle>, track: Option<Ends>) -> Result<Scene, Refusal>
     ensures { result ≡ spec.see found own track }
 {
-    let Found::There(held) = found else {
-        return Seen::Lacks(Refusal::NotHeld);
-    };
-    let Own::Ship(ship) = own else {
-        return Seen::Lacks(Refusal::NoOwnShip);
-    };
-    let Tracked::Along(ends) = track else {
-        return Seen::Lacks(Refusal::NoTrack);
-    };
+    let held = found.ok_or(Refusal::NotHeld)?;
+    let own = own.ok_or(Refusal::NoOwnShip)?;
+    let track = track.ok_or(Refusal::NoTrack)?;
     let report = held.report;
-    Seen::Sees(Scene {
-        own: ship,
-        track: ends,
-        report,
-    })
-}
-
-// The line of what is seen, or what lacks.
-pub fn solved(radius: f64, seen: Seen) -> Answer
-    ensures { result ≡ spec.solved radius seen }
-{
-    match seen {
-        Seen::Lacks(refusal) => Answer::Refused(refusal),
-        Seen::Sees(scene) => Answer::Solved(solve_line(radius, scene)),
-    }
+    Ok(Scene { own, track, report })
 }

@@ -1,4 +1,5 @@
 -- What a quick look tells holds of every session of the setting (`quickly`), and the parts of a session.
+use Rattle.std.specs.Prelude.{None, Ok}
 use Prim.Native.Nat.{ℕ}
 use mathlib.Core.Bool.{Bool, true, false}
 use mathlib.Core.List.{List}
@@ -12,8 +13,6 @@ use Rattle.board.proofs.Glances.{identities-first, length-identities, glanced}
 use Rattle.plain.proofs.Listed.{at-most-le}
 use Rattle.plain.specs.declared.targets.Targets.{Targets}
 use Rattle.sessions.specs.declared.session.Session.{Session}
-use Rattle.plain.specs.declared.call.Answer.{Answer}
-use Rattle.plain.specs.declared.call.Answer.TheVariants.{Done}
 use Rattle.plain.specs.declared.call.Call.{Call}
 use Rattle.board.specs.declared.glance.Setting.{Setting}
 use Rattle.board.specs.declared.glance.Hint.{Hint}
@@ -21,6 +20,7 @@ use Rattle.board.specs.declared.glance.Hint.TheVariants as hint
 use Rattle.plain.specs.declared.targets.Target.{Target}
 use Rattle.wire.specs.declared.frame.Frame.{Frame}
 use Rattle.wire.specs.declared.frame.Frame.TheVariants as frame
+use Rattle.plain.specs.Call.{Answer}
 use Rattle.sessions.specs.Quick.{session_of, Quickly, total_reply, hinted, at_call, look}
 use Rattle.sessions.specs.Session.{plain_of, kind_of, told, if_started, reply_of, next, Stepping}
 use Rattle.sessions.proofs.Sessions.{heard, not-heard, asked, no-frame}
@@ -54,8 +54,8 @@ turned s q es fs c a t =
 hinted-right : (s : Setting) (ids : List ℕ) (c : Call) (h : Hint) → Glanced s ids c h → Quickly true s ids (frame.Told c) (hinted (kind_of c) h)
 unfolding Quickly Glanced hinted told
 hinted-right s ids c (hint.Stays a) g = λ es u. turned s s es es c a (g es u)
-hinted-right s ids c (hint.Puts p t) g = λ es u. ((g es u).0, (g es u).1, turned s s es _ c Done (g es u).2)
-hinted-right s ids c (hint.Sweeps q) g = λ es u. ((g es u).0, turned s q es _ c Done (g es u).1)
+hinted-right s ids c (hint.Puts p t) g = λ es u. ((g es u).0, (g es u).1, turned s s es _ c (Ok None) (g es u).2)
+hinted-right s ids c (hint.Sweeps q) g = λ es u. ((g es u).0, turned s q es _ c (Ok None) (g es u).1)
 hinted-right s ids c hint.Unclear g = tt
 
 call-right : (b : Bool) (s : Setting) (ids : List ℕ) (c : Call) → Quickly b s ids (frame.Told c) (at_call b s ids c)

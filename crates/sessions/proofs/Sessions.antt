@@ -1,13 +1,12 @@
 -- A session that has a board or none, and what each frame makes of it.
+use Rattle.std.specs.Prelude.{Option, Some, None, Ok, Err}
 use Prim.Native.Nat.{ℕ}
 use mathlib.Core.Bool.{true, false}
-use mathlib.Core.Option.{some, none}
 use mathlib.Core.Path.{◌≡◌, refl, sym, ◌∙◌, ap}
 use lib.Ieee.{Float}
 use Rattle.plain.specs.Board.{begins, fresh, answer, after}
 use Rattle.plain.specs.Code.{plain, Demanded}
 use Rattle.plain.specs.declared.state.Answered.{Answered}
-use Rattle.plain.specs.declared.call.Answer.TheVariants as answered
 use Rattle.plain.specs.declared.call.Call.{Call}
 use Rattle.plain.specs.declared.call.Refusal.{Refusal}
 use Rattle.plain.specs.declared.line.Line.{Line}
@@ -18,11 +17,11 @@ use Rattle.wire.specs.declared.reply.Reply.TheVariants as reply
 use Rattle.sessions.specs.declared.session.Session.{Session}
 use Rattle.sessions.specs.Session.{plain_of, kind_of, told, if_started, after_call, begun, reply_of, next, Stepping}
 
-pub opened : (s : Session) → s.started ≡ true → plain_of s ≡ some (plain s.board)
+pub opened : (s : Session) → s.started ≡ true → plain_of s ≡ Some (plain s.board)
 unfolding plain_of
 opened s e = rw e
 
-pub closed : (s : Session) → s.started ≡ false → plain_of s ≡ none
+pub closed : (s : Session) → s.started ≡ false → plain_of s ≡ None
 unfolding plain_of
 closed s e = rw e
 
@@ -32,20 +31,14 @@ Made r m = (m.answer ≡ begins r) × (plain m.board ≡ fresh r) × Demanded r 
 
 module _ {s : Session} {r : Float} {m : Answered} {y : Reply} where
   -- an accepted 00
-  pub started-done : y ≡ told 0 m.answer → Made r m → m.answer ≡ answered.Done
+  pub started : {l : Option Line} → y ≡ told 0 m.answer → Made r m → m.answer ≡ Ok l
       → Stepping s (frame.Fresh r) (record { session = record { started = true; board = m.board }; reply = y })
   unfolding reply_of next begun plain_of
-  started-done e f h =
-      record { reply_is = e ∙ ap (told 0) f.0; session_is = rw (f.1, ← f.0, h) }
-
-  pub started-solved : {l : Line} → y ≡ told 0 m.answer → Made r m → m.answer ≡ answered.Solved l
-      → Stepping s (frame.Fresh r) (record { session = record { started = true; board = m.board }; reply = y })
-  unfolding reply_of next begun plain_of
-  started-solved e f h =
+  started e f h =
       record { reply_is = e ∙ ap (told 0) f.0; session_is = rw (f.1, ← f.0, h) }
 
   -- a refused 00
-  pub stayed : {q : Refusal} → y ≡ told 0 m.answer → Made r m → m.answer ≡ answered.Refused q
+  pub stayed : {q : Refusal} → y ≡ told 0 m.answer → Made r m → m.answer ≡ Err q
       → Stepping s (frame.Fresh r) (record { session = s; reply = y })
   unfolding reply_of next begun
   stayed e f h = record { reply_is = e ∙ ap (told 0) f.0; session_is = rw (← f.0, h) }

@@ -1,14 +1,10 @@
 -- A session: a plain board, or none yet. What one frame makes of it, and what it is answered. Definitions only.
-use Rattle.std.specs.Prelude.{ℕ, cond, ◌≡◌, Ok, Err}
-use Rattle.std.proofs.Math.Option.{Option, some, none}
+use Rattle.std.specs.Prelude.{ℕ, cond, ◌≡◌, Option, Some, None, Result, Ok, Err}
+use Rattle.plain.specs.declared.call.Refusal.{Refusal}
 use Rattle.plain.specs.Asking.{mean, pick, choice_number, choice_identity}
 use Rattle.plain.specs.Board.{Plain, fresh, begins, answer, after}
-use Rattle.plain.specs.Call.{answer_number}
+use Rattle.plain.specs.Call.{Answer, answer_number}
 use Rattle.plain.specs.Code.{plain}
-use Rattle.plain.specs.declared.asking.Choice.{Choice}
-use Rattle.plain.specs.declared.asking.Choice.TheVariants as choice
-use Rattle.plain.specs.declared.call.Answer.{Answer}
-use Rattle.plain.specs.declared.call.Answer.TheVariants as answered
 use Rattle.plain.specs.declared.call.Call.{Call}
 use Rattle.plain.specs.declared.call.Call.TheVariants.{Report, Withdraw, OwnShip, Track, Solve}
 use Rattle.means.specs.Mean.{Mean, number_of}
@@ -32,9 +28,9 @@ kind_of (Solve i) = 5
 
 -- "kind, number (00 done), then the answer"; "Refused: kind and number alone"
 unfoldable pub told : ℕ → Answer → Reply
-told kind answered.Done = reply.Done kind
-told kind (answered.Solved l) = reply.Solved l
-told kind (answered.Refused q) = reply.Refused kind (answer_number (answered.Refused q))
+told kind (Ok None) = reply.Done kind
+told kind (Ok (Some l)) = reply.Solved l
+told kind (Err q) = reply.Refused kind (answer_number (Err q))
 
 -- "06 three floats"
 unfoldable pub mean_told : Mean → Reply
@@ -42,16 +38,16 @@ mean_told (Ok p) = reply.Mean (as_vec3 p)
 mean_told (Err e) = reply.Refused 6 (number_of (Err e))
 
 -- "07 identity"
-unfoldable pub pick_told : Choice → Reply
-pick_told (choice.Target i) = reply.Pick (choice_identity (choice.Target i))
-pick_told (choice.Refused q) = reply.Refused 7 (choice_number (choice.Refused q))
+unfoldable pub pick_told : Result ℕ Refusal → Reply
+pick_told (Ok i) = reply.Pick (choice_identity (Ok i))
+pick_told (Err q) = reply.Refused 7 (choice_number (Err q))
 
 -- ---- the reply of a session
 
 -- "has an accepted 00 come before it? 1": a board's reply, or number 1 where there is none
 unfoldable pub if_started : Option Plain → (Plain → Reply) → Reply
-if_started none f = reply.NotAFrame
-if_started (some b) f = f b
+if_started None f = reply.NotAFrame
+if_started (Some b) f = f b
 
 -- the reply to a frame
 unfoldable pub reply_of : Option Plain → Frame → Reply
@@ -66,13 +62,12 @@ reply_of o frame.NotAFrame = reply.NotAFrame
 
 -- "00 starts a fresh board"; a refused 00 leaves what was there
 unfoldable pub begun : Answer → Plain → Option Plain → Option Plain
-begun answered.Done b o = some b
-begun (answered.Solved l) b o = some b
-begun (answered.Refused q) b o = o
+begun (Ok l) b o = Some b
+begun (Err q) b o = o
 
 unfoldable pub after_call : Option Plain → Call → Option Plain
-after_call none c = none
-after_call (some b) c = some (after b c)
+after_call None c = None
+after_call (Some b) c = Some (after b c)
 
 unfoldable pub next : Option Plain → Frame → Option Plain
 next o (frame.Fresh r) = begun (begins r) (fresh r) o
@@ -86,7 +81,7 @@ next o frame.NotAFrame = o
 
 -- the plain board that a session stands for
 unfoldable pub plain_of : Session → Option Plain
-plain_of s = cond s.started (some (plain s.board)) none
+plain_of s = cond s.started (Some (plain s.board)) None
 
 -- what a frame makes of a session
 pub record Stepping (s : Session) (f : Frame) (r : Stepped) : Type 0 where

@@ -1,13 +1,11 @@
 // A session: a board or none yet, and what a frame makes of it.
-ghost use Rattle.std.specs.Prelude.{◌≡◌};
-ghost use Rattle.std.proofs.Math.Option.{none};
+ghost use Rattle.std.specs.Prelude.{◌≡◌, None};
 ghost use Rattle.sessions.specs.Session as spec;
 
 use board::board::{fresh, hear};
 use jord::positions::NVector;
 use means::NoMean;
-use plain::asking::Choice;
-use plain::call::{Answer, Call};
+use plain::call::{Answer, Call, Refusal};
 use plain::state::Board;
 use targets::asking::{mean, pick, total};
 use wire::frame::Frame;
@@ -29,7 +27,7 @@ pub struct Stepped {
 
 // A session with no board yet.
 pub fn begin() -> Session
-    ensures { spec.plain_of result ≡ none }
+    ensures { spec.plain_of result ≡ None }
 {
     let made = fresh(1.0);
     let board = made.board;
@@ -57,9 +55,9 @@ pub fn told(kind: u8, answer: Answer) -> Reply
     ensures { result ≡ spec.told kind answer }
 {
     match answer {
-        Answer::Done => Reply::Done(kind),
-        Answer::Solved(line) => Reply::Solved(line),
-        Answer::Refused(_) => Reply::Refused(kind, answer.number()),
+        Ok(None) => Reply::Done(kind),
+        Ok(Some(line)) => Reply::Solved(line),
+        Err(refusal) => Reply::Refused(kind, refusal.number()),
     }
 }
 
@@ -76,9 +74,8 @@ fn start(s: Session, radius: f64) -> Stepped
         board,
     };
     match answer {
-        Answer::Done => Stepped { session, reply },
-        Answer::Solved(_) => Stepped { session, reply },
-        Answer::Refused(_) => Stepped { session: s, reply },
+        Ok(_) => Stepped { session, reply },
+        Err(_) => Stepped { session: s, reply },
     }
 }
 
@@ -116,12 +113,12 @@ fn mean_told(m: Result<NVector, NoMean>) -> Reply
 }
 
 // The reply to a pick.
-fn pick_told(choice: Choice) -> Reply
+fn pick_told(choice: Result<u16, Refusal>) -> Reply
     ensures { result ≡ spec.pick_told choice }
 {
     match choice {
-        Choice::Target(_) => Reply::Pick(choice.identity()),
-        Choice::Refused(_) => Reply::Refused(7, choice.number()),
+        Ok(identity) => Reply::Pick(identity),
+        Err(refusal) => Reply::Refused(7, refusal.number()),
     }
 }
 

@@ -1,4 +1,5 @@
 -- Lists that the loops over the array build, and where a search of a list ends.
+use Rattle.std.specs.Prelude.{None, Ok, Err}
 use Prim.Native.Nat.{ℕ, suc, ◌+◌, ◌-◌, ◌≤◌, ◌<◌}
 use native.Mathlib.Nat.{min-le_left}
 use native.Mathlib.Numerals.{add-one}
@@ -8,12 +9,10 @@ use mathlib.Core.Bool.{Bool, true, false, cond}
 use mathlib.Core.List.{List, [], ◌∷◌, ◌++◌, map, append-nil}
 use lib.Dec.{ltb, eqb}
 use borrow.Author.Tests.{lt-ltb, le-ltb, eq-eqb, ne_eqb}
-use Rattle.targets.specs.declared.Spot.TheVariants.{At, Before}
 use lib.ListN.{length-set, length, take, drop, get_or, set, length-take, length-drop, length-append, take-append-drop, drop_of_length-le}
 use lib.Seq.{take-suc-set, drop-set-lt, get_or-drop, take-suc, drop-cons, set_at, append_snoc, length-take-le, get_or-take, take_all, get_or-append-add, take_at}
 use lib.Ieee.{nan}
 use Rattle.plain.specs.declared.targets.Target.{Target}
-use Rattle.plain.specs.declared.targets.Lined.TheVariants.{Bare}
 use Rattle.targets.specs.Slots.{spot_in, spot_from}
 
 module _ {A : Type 0} where
@@ -96,7 +95,7 @@ absent =
                   bearing = record { radians = nan };
                   speed = record { mps = nan };
                 };
-            line = Bare;
+            line = None;
           };
     }
 
@@ -112,15 +111,15 @@ module _ (x n : ℕ) (ks : List ℕ) (i : ℕ) (fit : n ≤ length ks) (h : spot
   unfolding spot_in
   search-on below b = h ∙ rw (look below, lt-ltb (get_or ks i 0) x b, add-one)
 
-  pub search-held : i < n → x ≤ get_or ks i 0 → x ≡ get_or ks i 0 → At i ≡ spot_in 0 x (take n ks)
+  pub search-held : i < n → x ≤ get_or ks i 0 → x ≡ get_or ks i 0 → Ok i ≡ spot_in 0 x (take n ks)
   unfolding spot_in
   search-held below b e = sym (h ∙ rw (look below, le-ltb (get_or ks i 0) x b, eq-eqb x (get_or ks i 0) e))
 
-  pub search-free : i < n → x ≤ get_or ks i 0 → (x ≡ get_or ks i 0 → ⊥) → Before i ≡ spot_in 0 x (take n ks)
+  pub search-free : i < n → x ≤ get_or ks i 0 → (x ≡ get_or ks i 0 → ⊥) → Err i ≡ spot_in 0 x (take n ks)
   unfolding spot_in
   search-free below b e = sym (h ∙ rw (look below, le-ltb (get_or ks i 0) x b, ne_eqb x (get_or ks i 0) e))
 
-pub search-out : (x n : ℕ) (ks : List ℕ) (i : ℕ) → n ≤ length ks → spot_in 0 x (take n ks) ≡ spot_in i x (drop i (take n ks)) → n ≤ i → Before i ≡ spot_in 0 x (take n ks)
+pub search-out : (x n : ℕ) (ks : List ℕ) (i : ℕ) → n ≤ length ks → spot_in 0 x (take n ks) ≡ spot_in i x (drop i (take n ks)) → n ≤ i → Err i ≡ spot_in 0 x (take n ks)
 unfolding spot_in
 search-out x n ks i fit h out =
     let e : drop i (take n ks) ≡ [] = drop_of_length-le (take n ks) {i = i} (rw (length-take-le n ks) out) in
@@ -132,7 +131,7 @@ cond_cases true f g e = f e
 cond_cases false f g e = g e
 
 -- a place that a search gives is within the list
-pub held-within : (i x : ℕ) (l : List Target) (p : ℕ) → spot_from i x l ≡ At p → p < i + length l
+pub held-within : (i x : ℕ) (l : List Target) (p : ℕ) → spot_from i x l ≡ Ok p → p < i + length l
 unfolding spot_from spot_in
 held-within i x [] p e = let z : ◌≡◌ {A = ℕ} 0 1 = cc in omega arith
 held-within i x (t ∷ ts) p e =
@@ -140,7 +139,7 @@ held-within i x (t ∷ ts) p e =
     (cond_cases (eqb x t.identity) (λ q. let z : i ≡ p = cc in omega arith) (λ q. let z : ◌≡◌ {A = ℕ} 0 1 = cc in omega arith))
     e
 
-pub free-within : (i x : ℕ) (l : List Target) (p : ℕ) → spot_from i x l ≡ Before p → p ≤ i + length l
+pub free-within : (i x : ℕ) (l : List Target) (p : ℕ) → spot_from i x l ≡ Err p → p ≤ i + length l
 unfolding spot_from spot_in
 free-within i x [] p e = let z : i ≡ p = cc in omega arith
 free-within i x (t ∷ ts) p e =
@@ -149,8 +148,8 @@ free-within i x (t ∷ ts) p e =
     e
 
 -- a place that a search of the first n gives is below n
-pub held_below : (x n : ℕ) (ts : List Target) (p : ℕ) → spot_from 0 x (take n ts) ≡ At p → p < n
+pub held_below : (x n : ℕ) (ts : List Target) (p : ℕ) → spot_from 0 x (take n ts) ≡ Ok p → p < n
 held_below x n ts p e = omega (arith, held-within 0 x (take n ts) p e, length-take n ts, min-le_left n (length ts))
 
-pub free-below : (x n : ℕ) (ts : List Target) (p : ℕ) → spot_from 0 x (take n ts) ≡ Before p → p ≤ n
+pub free-below : (x n : ℕ) (ts : List Target) (p : ℕ) → spot_from 0 x (take n ts) ≡ Err p → p ≤ n
 free-below x n ts p e = omega (arith, free-within 0 x (take n ts) p e, length-take n ts, min-le_left n (length ts))

@@ -1,4 +1,5 @@
 -- The targets that stand in the array, after a store, an insertion, a removal and a clearing of it.
+use Rattle.std.specs.Prelude.{Some, None, Result, Ok, Err}
 use Prim.Native.Nat.{ℕ, zero, suc, ◌+◌, ◌-◌, ◌≤◌, ◌<◌}
 use native.Mathlib.Nat.{zero-add, suc-add}
 use native.Mathlib.Numerals.{add-one}
@@ -13,9 +14,6 @@ use borrow.Author.Tests.{ltb-true, ltb-false}
 use Rattle.plain.specs.declared.targets.Held.{Held}
 use Rattle.plain.specs.declared.targets.Target.{Target}
 use Rattle.plain.specs.declared.targets.Targets.{Targets}
-use Rattle.plain.specs.declared.targets.Found.TheVariants.{Nothing, There}
-use Rattle.targets.specs.declared.Spot.{Spot}
-use Rattle.targets.specs.declared.Spot.TheVariants.{At, Before}
 use Rattle.plain.specs.Targets.{most_targets, find, place, bare_target, bared, at_most, listed}
 use Rattle.targets.specs.Slots.{spot_from}
 use Rattle.plain.proofs.Listed.{at-most-same, at-most-le, listed_le}
@@ -57,14 +55,14 @@ module _ (ts : List Target) (n : ℕ) (full : length ts ≡ most_targets) (small
   length_taken : length (take n ts) ≡ n
   length_taken = length-take-le n ts (omega arith)
 
-  pub found_at : (p : ℕ) → spot_from 0 x (take n ts) ≡ At p → find x (take n ts) ≡ There (get_or ts p absent).held
-  found_at p e = (stands_at x (take n ts) p e).looked ∙ ap (λ (t : Target). There t.held) (get_or-take n ts p absent (held_below x n ts p e))
+  pub found_at : (p : ℕ) → spot_from 0 x (take n ts) ≡ Ok p → find x (take n ts) ≡ Some (get_or ts p absent).held
+  found_at p e = (stands_at x (take n ts) p e).looked ∙ ap (λ (t : Target). Some t.held) (get_or-take n ts p absent (held_below x n ts p e))
 
-  pub found_none : (p : ℕ) → spot_from 0 x (take n ts) ≡ Before p → find x (take n ts) ≡ Nothing
+  pub found_none : (p : ℕ) → spot_from 0 x (take n ts) ≡ Err p → find x (take n ts) ≡ None
   found_none p e = (belongs-at x (take n ts) p e).looked
 
-  pub stored_at : (p : ℕ) (h : Held) → spot_from 0 x (take n ts) ≡ At p
-      → take (at_most n) (set ts p (record { identity = x; held = h })) ≡ take most_targets (place x (There h) (take n ts))
+  pub stored_at : (p : ℕ) (h : Held) → spot_from 0 x (take n ts) ≡ Ok p
+      → take (at_most n) (set ts p (record { identity = x; held = h })) ≡ take most_targets (place x (Some h) (take n ts))
   stored_at p h e =
       let s = (stands_at x (take n ts) p e).stored h in
       rw (at-most-same n small, ← s)
@@ -72,8 +70,8 @@ module _ (ts : List Target) (n : ℕ) (full : length ts ≡ most_targets) (small
       ∙ sym (take_all most_targets (set (take n ts) p (record { identity = x; held = h })) (rw length-set (omega (arith, length_taken)))))
 
   -- where there is room
-  inserted_by : (p : ℕ) (h : Held) → spot_from 0 x (take n ts) ≡ Before p → n < most_targets
-      → take (at_most (n + 1)) (take most_targets (insert_at p (record { identity = x; held = h }) ts)) ≡ take most_targets (place x (There h) (take n ts))
+  inserted_by : (p : ℕ) (h : Held) → spot_from 0 x (take n ts) ≡ Err p → n < most_targets
+      → take (at_most (n + 1)) (take most_targets (insert_at p (record { identity = x; held = h }) ts)) ≡ take most_targets (place x (Some h) (take n ts))
   inserted_by p h e room =
       let s = (belongs-at x (take n ts) p e).placed h in
       let low : p ≤ n = free-below x n ts p e in
@@ -84,29 +82,29 @@ module _ (ts : List Target) (n : ℕ) (full : length ts ≡ most_targets) (small
       ∙ sym (take_all most_targets (insert_at p (record { identity = x; held = h }) (take n ts)) l))
 
   -- where there is none, the list is the whole array
-  inserted-full : (p : ℕ) (h : Held) → spot_from 0 x (take n ts) ≡ Before p → n ≡ most_targets
-      → take (at_most (n + 1)) (take most_targets (insert_at p (record { identity = x; held = h }) ts)) ≡ take most_targets (place x (There h) (take n ts))
+  inserted-full : (p : ℕ) (h : Held) → spot_from 0 x (take n ts) ≡ Err p → n ≡ most_targets
+      → take (at_most (n + 1)) (take most_targets (insert_at p (record { identity = x; held = h }) ts)) ≡ take most_targets (place x (Some h) (take n ts))
   inserted-full p h e f =
       let s = (belongs-at x (take n ts) p e).placed h in
       let a : take n ts ≡ ts = take_all n ts (omega arith) in
       rw (← s, a, f) (take-take most_targets most_targets (insert_at p (record { identity = x; held = h }) ts) (omega arith))
 
-  pub inserted-at : (p : ℕ) (h : Held) → spot_from 0 x (take n ts) ≡ Before p
-      → take (at_most (n + 1)) (take most_targets (insert_at p (record { identity = x; held = h }) ts)) ≡ take most_targets (place x (There h) (take n ts))
+  pub inserted-at : (p : ℕ) (h : Held) → spot_from 0 x (take n ts) ≡ Err p
+      → take (at_most (n + 1)) (take most_targets (insert_at p (record { identity = x; held = h }) ts)) ≡ take most_targets (place x (Some h) (take n ts))
   inserted-at p h e = go (ltb n most_targets) refl
     where
       go : (t : Bool) → ltb n most_targets ≡ t
-          → take (at_most (n + 1)) (take most_targets (insert_at p (record { identity = x; held = h }) ts)) ≡ take most_targets (place x (There h) (take n ts))
+          → take (at_most (n + 1)) (take most_targets (insert_at p (record { identity = x; held = h }) ts)) ≡ take most_targets (place x (Some h) (take n ts))
       go true q = inserted_by p h e (omega (arith, ltb-true n most_targets q))
       go false q = inserted-full p h e (omega (arith, ltb-false n most_targets q))
 
-  pub removed-at : (p : ℕ) → spot_from 0 x (take n ts) ≡ At p
-      → take (at_most (n - 1)) (take most_targets (remove_at p ts ++ drop (most_targets - 1) ts)) ≡ place x Nothing (take n ts)
+  pub removed-at : (p : ℕ) → spot_from 0 x (take n ts) ≡ Ok p
+      → take (at_most (n - 1)) (take most_targets (remove_at p ts ++ drop (most_targets - 1) ts)) ≡ place x None (take n ts)
   removed-at p e =
       let s = (stands_at x (take n ts) p e).without in
       rw (at-most-same (n - 1) (omega arith), ← s, ← add-one p) (first-removed ts n p full small (held_below x n ts p e))
 
-  pub removed-none : (p : ℕ) → spot_from 0 x (take n ts) ≡ Before p → take n ts ≡ place x Nothing (take n ts)
+  pub removed-none : (p : ℕ) → spot_from 0 x (take n ts) ≡ Err p → take n ts ≡ place x None (take n ts)
   removed-none p e = (belongs-at x (take n ts) p e).without
 
 pub listed-is : (ts : Targets) (n : ℕ) → n ≡ at_most ts.count → take n ts.entries ≡ listed ts
@@ -114,39 +112,39 @@ unfolding listed
 listed-is ts n e = rw e
 
 -- of the targets themselves: n stand, and s is what a search of them gives
-module _ (ts : Targets) (x n : ℕ) (full : length ts.entries ≡ most_targets) (e : n ≡ at_most ts.count) (s : Spot) (q : s ≡ spot_from 0 x (take n ts.entries)) where
+module _ (ts : Targets) (x n : ℕ) (full : length ts.entries ≡ most_targets) (e : n ≡ at_most ts.count) (s : Result ℕ ℕ) (q : s ≡ spot_from 0 x (take n ts.entries)) where
   small : n ≤ most_targets
   small = rw e (at-most-le ts.count)
 
   list : take n ts.entries ≡ listed ts
   list = listed-is ts n e
 
-  pub place-below : (p : ℕ) → s ≡ At p → p < n
+  pub place-below : (p : ℕ) → s ≡ Ok p → p < n
   place-below p h = held_below x n ts.entries p (sym q ∙ h)
 
-  pub found_is : (p : ℕ) → s ≡ At p → There (get_or ts.entries p absent).held ≡ find x (listed ts)
+  pub found_is : (p : ℕ) → s ≡ Ok p → Some (get_or ts.entries p absent).held ≡ find x (listed ts)
   found_is p h = sym (found_at ts.entries n full small x p (sym q ∙ h)) ∙ ap (find x) list
 
-  pub stored_is : (p : ℕ) (h : Held) → s ≡ At p
-      → listed (record { entries = set ts.entries p (record { identity = x; held = h }); count = n }) ≡ take most_targets (place x (There h) (listed ts))
+  pub stored_is : (p : ℕ) (h : Held) → s ≡ Ok p
+      → listed (record { entries = set ts.entries p (record { identity = x; held = h }); count = n }) ≡ take most_targets (place x (Some h) (listed ts))
   unfolding listed
   stored_is p h k =
-      stored_at ts.entries n full small x p h (sym q ∙ k) ∙ ap (λ (l : List Target). take most_targets (place x (There h) l)) list
+      stored_at ts.entries n full small x p h (sym q ∙ k) ∙ ap (λ (l : List Target). take most_targets (place x (Some h) l)) list
 
-  pub inserted-is : (p : ℕ) (h : Held) → s ≡ Before p
+  pub inserted-is : (p : ℕ) (h : Held) → s ≡ Err p
       → listed (record { entries = take most_targets (insert_at p (record { identity = x; held = h }) ts.entries); count = n + 1 })
-      ≡ take most_targets (place x (There h) (listed ts))
+      ≡ take most_targets (place x (Some h) (listed ts))
   unfolding listed
   inserted-is p h k =
-      inserted-at ts.entries n full small x p h (sym q ∙ k) ∙ ap (λ (l : List Target). take most_targets (place x (There h) l)) list
+      inserted-at ts.entries n full small x p h (sym q ∙ k) ∙ ap (λ (l : List Target). take most_targets (place x (Some h) l)) list
 
-  pub removed-is : (p : ℕ) → s ≡ At p
-      → listed (record { entries = take most_targets (remove_at p ts.entries ++ drop (most_targets - 1) ts.entries); count = n - 1 }) ≡ place x Nothing (listed ts)
+  pub removed-is : (p : ℕ) → s ≡ Ok p
+      → listed (record { entries = take most_targets (remove_at p ts.entries ++ drop (most_targets - 1) ts.entries); count = n - 1 }) ≡ place x None (listed ts)
   unfolding listed
-  removed-is p k = removed-at ts.entries n full small x p (sym q ∙ k) ∙ ap (place x Nothing) list
+  removed-is p k = removed-at ts.entries n full small x p (sym q ∙ k) ∙ ap (place x None) list
 
-  pub removed-not : (p : ℕ) → s ≡ Before p → listed ts ≡ place x Nothing (listed ts)
-  removed-not p k = sym list ∙ removed-none ts.entries n full small x p (sym q ∙ k) ∙ ap (place x Nothing) list
+  pub removed-not : (p : ℕ) → s ≡ Err p → listed ts ≡ place x None (listed ts)
+  removed-not p k = sym list ∙ removed-none ts.entries n full small x p (sym q ∙ k) ∙ ap (place x None) list
 
 pub take-bared : (n : ℕ) (l : List Target) → take n (map bare_target l) ≡ bared (take n l)
 unfolding bared
@@ -158,11 +156,11 @@ pub counted_is : (ts : List Target) (n : ℕ) → length ts ≡ most_targets →
 counted_is ts n full = sym (length-take-le (at_most n) ts (omega (arith, at-most-le n)))
 
 -- what is placed without growth fits the array
-pub removed-fits : (i : ℕ) (ts : Targets) → place i Nothing (listed ts) ≡ take most_targets (place i Nothing (listed ts))
-removed-fits i ts = sym (take_all most_targets (place i Nothing (listed ts)) (omega (arith, length-place-nothing i (listed ts), listed_le ts)))
+pub removed-fits : (i : ℕ) (ts : Targets) → place i None (listed ts) ≡ take most_targets (place i None (listed ts))
+removed-fits i ts = sym (take_all most_targets (place i None (listed ts)) (omega (arith, length-place-nothing i (listed ts), listed_le ts)))
 
 pub bared-fits : (ts : Targets) → bared (listed ts) ≡ take most_targets (bared (listed ts))
 bared-fits ts = sym (take_all most_targets (bared (listed ts)) (omega (arith, length-bared (listed ts), listed_le ts)))
 
-pub absent-fits : (i : ℕ) (ts : Targets) → find i (listed ts) ≡ Nothing → listed ts ≡ take most_targets (place i Nothing (listed ts))
+pub absent-fits : (i : ℕ) (ts : Targets) → find i (listed ts) ≡ None → listed ts ≡ take most_targets (place i None (listed ts))
 absent-fits i ts e = sym (place-absent i (listed ts) e) ∙ removed-fits i ts

@@ -1,6 +1,5 @@
 -- The code's way to a mean and to a pick. Definitions only.
-use Rattle.std.specs.Prelude.{ℕ, ◌+◌, ◌*◌, ◌<◌, cond, List, map, ◌≡◌, ltb, Float, get_or}
-use Rattle.std.proofs.Math.Option.{Option, some, none}
+use Rattle.std.specs.Prelude.{ℕ, ◌+◌, ◌*◌, ◌<◌, cond, List, map, ◌≡◌, ltb, Float, get_or, Option, Some, None}
 use Rattle.std.specs.Float.{nan}
 use Rattle.jord.specs.Positions.{as_vec3}
 use Rattle.vectors.specs.declared.vec3.Vec3.{Vec3}
@@ -8,7 +7,6 @@ use Rattle.plain.specs.Asking.{position_of, meeting_time}
 use Rattle.plain.specs.Targets.{most_targets}
 use Rattle.plain.specs.declared.targets.Target.{Target}
 use Rattle.targets.specs.declared.asking.Best.{Best}
-use Rattle.targets.specs.declared.asking.Best.TheVariants.{Missing, At}
 
 -- ---- a mean: the parts of the positions in one list, all x, then all y, then all z
 
@@ -25,13 +23,13 @@ Columns ts n cs = Column (λ v. v.x) 0 ts n cs × Column (λ v. v.y) most_target
 
 -- ---- a pick: the least so far, and one target more
 
-abbrev pub sooner : Best → ℕ → ℕ → Best
-sooner Missing i s = At i s
-sooner (At j m) i s = cond (ltb s m) (At i s) (At j m)
+abbrev pub sooner : Option Best → ℕ → ℕ → Option Best
+sooner None i s = Some (record { identity = i; time = s })
+sooner (Some b) i s = cond (ltb s b.time) (Some (record { identity = i; time = s })) (Some b)
 
-abbrev pub better_by : Best → ℕ → Option ℕ → Best
-better_by b i none = b
-better_by b i (some s) = sooner b i s
+abbrev pub better_by : Option Best → ℕ → Option ℕ → Option Best
+better_by b i None = b
+better_by b i (Some s) = sooner b i s
 
-abbrev pub better : Best → Target → Best
+abbrev pub better : Option Best → Target → Option Best
 better b t = better_by b t.identity (meeting_time t)

@@ -1,5 +1,5 @@
 // What is asked of a board: nothing changes.
-ghost use Rattle.std.specs.Prelude.{◌≡◌, ◌*◌, ◌≤◌, length, take};
+ghost use Rattle.std.specs.Prelude.{◌≡◌, ◌*◌, ◌≤◌, length, take, None};
 ghost use Rattle.means.specs.Mean as means;
 ghost use Rattle.plain.specs.Asking as asked;
 ghost use Rattle.plain.specs.Code.{plain};
@@ -10,21 +10,20 @@ use crate::least;
 use jord::positions::NVector;
 use means::NoMean;
 use means::columns::mean_of_columns;
-use plain::asking::Choice;
 use plain::call::Refusal;
 use plain::state::Board;
-use plain::targets::{Lined, MOST_TARGETS, Target};
+use plain::targets::{MOST_TARGETS, Target};
 use vectors::vec3::Vec3;
 use walks::Outcome;
 
 // Three parts for each target.
 const MOST_PARTS: usize = 3 * MOST_TARGETS;
 
-// The target with the least found meeting time, in nanoseconds, of those looked at so far, or none.
+// A target's identity and its found meeting time, in nanoseconds.
 #[derive(Clone, Copy)]
-enum Best {
-    Missing,
-    At { identity: u16, time: u64 },
+struct Best {
+    identity: u16,
+    time: u64,
 }
 
 // The total of steps.
@@ -70,23 +69,23 @@ fn vector_of(t: Target) -> Vec3
 }
 
 // The target of the lowest identity among those whose found meeting time is least; NoMeeting (19) where none has one.
-pub fn pick(board: Board) -> Choice
+pub fn pick(board: Board) -> Result<u16, Refusal>
     ensures { result ≡ asked.pick (plain board) }
 {
     let targets = board.targets;
     let entries = targets.entries;
     match soonest(entries, least(targets.count)) {
-        Best::Missing => Choice::Refused(Refusal::NoMeeting),
-        Best::At { identity, time: _ } => Choice::Target(identity),
+        None => Err(Refusal::NoMeeting),
+        Some(best) => Ok(best.identity),
     }
 }
 
 // The least meeting time of the first n targets, and the first of them that has it.
-fn soonest(entries: [Target; MOST_TARGETS], n: usize) -> Best
+fn soonest(entries: [Target; MOST_TARGETS], n: usize) -> Option<Best>
     requires { n ≤ most_targets }
-    ensures { result ≡ means.fold spec.better Best.Missing (take n entries) }
+    ensures { result ≡ means.fold spec.better None (take n entries) }
 {
-    let mut b = Best::Missing;
+    let mut b = None;
     let mut i = 0;
     while i < n {
         b = better(b, entries[i]);
@@ -96,12 +95,12 @@ fn soonest(entries: [Target; MOST_TARGETS], n: usize) -> Best
 }
 
 // The best so far, or target t where its line has a found meeting time that is less.
-fn better(b: Best, t: Target) -> Best
+fn better(b: Option<Best>, t: Target) -> Option<Best>
     ensures { result ≡ spec.better b t }
 {
     let held = t.held;
     let line = held.line;
-    let Lined::With(solved) = line else {
+    let Some(solved) = line else {
         return b;
     };
     let meeting = solved.meeting;
@@ -118,17 +117,14 @@ fn better(b: Best, t: Target) -> Best
 }
 
 // The best so far, or this identity where its meeting time in nanoseconds is less: among equals the earlier stays.
-fn sooner(b: Best, identity: u16, time: u64) -> Best
+fn sooner(b: Option<Best>, identity: u16, time: u64) -> Option<Best>
     ensures { result ≡ spec.sooner b identity time }
 {
     match b {
-        Best::Missing => Best::At { identity, time },
-        Best::At {
-            identity: _,
-            time: known,
-        } => {
-            if time < known {
-                Best::At { identity, time }
+        None => Some(Best { identity, time }),
+        Some(best) => {
+            if time < best.time {
+                Some(Best { identity, time })
             } else {
                 b
             }

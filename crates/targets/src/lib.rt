@@ -9,7 +9,7 @@ use jord::angle::Angle;
 use jord::positions::NVector;
 use jord::speed::Speed;
 use jord::vehicle::Vehicle;
-use plain::targets::{Found, Held, Lined, MOST_TARGETS, Target, Targets};
+use plain::targets::{Held, MOST_TARGETS, Target, Targets};
 use vectors::vec3::Vec3;
 
 pub mod asking;
@@ -17,18 +17,11 @@ pub mod asking;
 // The last of a board's 64 places.
 const LAST: usize = MOST_TARGETS - 1;
 
-// Where an identity stands, or where it would.
-#[derive(Clone, Copy)]
-pub enum Spot {
-    At(usize),
-    Before(usize),
-}
-
-// What a search for an identity gives: its spot, and what is held under it.
+// What a search for an identity gives: the place where it stands, or as an error that where it would, and what is held under it.
 #[derive(Clone, Copy)]
 pub struct Sought {
-    pub spot: Spot,
-    pub found: Found,
+    pub spot: Result<usize, usize>,
+    pub found: Option<Held>,
 }
 
 // What a call does to the targets.
@@ -53,7 +46,7 @@ pub fn empty() -> Targets
     let nowhere = Vehicle::new(NVector::new(Vec3::ZERO), Angle::ZERO, Speed::ZERO);
     let held = Held {
         report: nowhere,
-        line: Lined::Bare,
+        line: None,
     };
     let blank = Target { identity: 0, held };
     Targets {
@@ -95,8 +88,8 @@ fn identities_of(entries: [Target; MOST_TARGETS], n: usize) -> [u16; MOST_TARGET
     out
 }
 
-// Where an identity stands among the first of these, at most 64, or before which it would.
-pub fn seek(ids: &[u16], count: usize, identity: u16) -> Spot
+// Where an identity stands among the first of these, at most 64, or as an error before which it would.
+pub fn seek(ids: &[u16], count: usize, identity: u16) -> Result<usize, usize>
     ensures value { result ≡ spec.spot_in 0 identity (take (at_most count) ids.now) }
     ensures unchanged { ids.exit.now ≡ ids.entry.now }
 {
@@ -107,13 +100,13 @@ pub fn seek(ids: &[u16], count: usize, identity: u16) -> Spot
         let k = ids[i];
         if identity <= k {
             if identity == k {
-                return Spot::At(i);
+                return Ok(i);
             }
-            return Spot::Before(i);
+            return Err(i);
         }
         i += 1;
     }
-    Spot::Before(i)
+    Err(i)
 }
 
 // The entries with t in place p, those from p on one place later and the last dropped; as they were where p is 64 or more.
@@ -175,7 +168,7 @@ fn bare(t: Target) -> Target
                 bearing,
                 speed,
             },
-            line: Lined::Bare,
+            line: None,
         },
     }
 }

@@ -2,28 +2,27 @@
 -- the plain board's targets.
 use native.Mathlib.Omega.{arith}
 use Prim.Native.Nat.{◌<◌}
-use mathlib.Core.Bool.{false≢true}
-use mathlib.Core.Path.{◌≡◌, refl, sym, subst, ◌∙◌}
-use borrow.Author.Tests.{not-true, not-false}
+use mathlib.Core.Bool.{false≢true, not}
+use mathlib.Core.Path.{◌≡◌, refl, sym, ap, subst, ◌∙◌}
 use Rattle.targets.specs.declared.Change.{Change}
 use Rattle.plain.specs.Targets.{most_targets, at_most, listed}
 use Rattle.plain.specs.Code.{plain}
 use Rattle.board.specs.Change.{entries_after, Within}
 use Rattle.plain.proofs.Listed.{at-most-le}
 use Rattle.plain.proofs.Played.{heard-refused}
-use Rattle.board.proofs.Changes.{sought-is, answered-is, within-is, changed-is}
+use Rattle.board.proofs.Changes.{sought-is, answered-is, ok-accepted, within-is, changed-is}
 use Rattle.board.proofs.board.hear.Goals as goal
 use Rattle.board.proofs.board.hear.Goals.{in-Stays, in-Stores, in-Inserts, in-Removes, in-Sweeps}
 
-pub returns-then-refuses : goal.returns-then-refuses
+pub returns-then-is_err : goal.returns-then-is_err
 unfolding plain listed
-returns-then-refuses c =
+returns-then-is_err c =
     let a = c.args in
     let s = sought-is a.board.targets _ _ _ _ c.seek_in-sought.ensures c.least-n.ensures c.name_of.ensures in
     let k = answered-is a.board a.call _ _ _ c.answer_of-answer.ensures s.1 s.2 in
     record {
       answer_is = k;
-      board_is = heard-refused a.board a.call _ k (not-true _ (sym c.refuses.ensures ∙ c.if-refuses.true));
+      board_is = heard-refused a.board a.call _ k (ok-accepted c.answer_of-answer.result ∙ c.is_err.ensures.negation ∙ ap not c.if-is_err.true);
       refused_keeps = λ e. refl;
     }
 
@@ -53,7 +52,7 @@ returns c =
     let n = c.least-n.ensures in
     let s = sought-is a.board.targets _ _ _ _ k n c.name_of.ensures in
     let q = answered-is a.board a.call _ _ _ c.answer_of-answer.ensures s.1 s.2 in
-    let yes' = not-false _ (sym c.refuses.ensures ∙ c.if-refuses.false) in
+    let yes' = ok-accepted c.answer_of-answer.result ∙ c.is_err.ensures.negation ∙ ap not c.if-is_err.false in
     -- each arm leaves what its change makes of the entries
     let arms : (c.match-change.change ≡ c.change_of-change.result) × (c.match-change.entries ≡ entries_after c.change_of-change.result a.board.targets.entries) =
     elim c.match-change.branch [

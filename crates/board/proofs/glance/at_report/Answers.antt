@@ -1,38 +1,15 @@
 -- `at_report` meets its contract. The questions before the last decide, and a held identity has its place.
-use borrow.Author.Tests.{not-true, not-false}
-use Prim.Native.Nat.{ℕ}
-use Rattle.plain.specs.declared.call.Answer.{Answer}
-use Rattle.plain.specs.declared.call.Fix.{Fix}
-use Rattle.plain.specs.declared.questions.Said.{Said}
-use mathlib.Core.Path.{◌≡◌, sym, ap, ◌∙◌}
-use Rattle.plain.specs.declared.call.Answer.TheVariants.{Done}
-use Rattle.board.specs.declared.glance.Hint.TheVariants.{Stays}
-use Rattle.plain.specs.Questions.{ask, ask_fix, identity_asked}
 use Rattle.board.specs.Glance.{at_report}
-use Rattle.plain.specs.History.{accepts}
-use Rattle.board.proofs.Glances.{refused-stays, report-goes}
 use Rattle.board.proofs.glance.at_report.Goals as goal
 
--- what the questions of identity and fix come to
-asked : (answer fixed : Answer) (one : Said) (identity : ℕ) (fix : Fix) → answer ≡ ask one fixed → one ≡ identity_asked identity → fixed ≡ ask_fix fix Done
-    → answer ≡ ask (identity_asked identity) (ask_fix fix Done)
-asked answer fixed one identity fix a o f = a ∙ rw (f, o)
-
-pub returns-then-refuses : goal.returns-then-refuses
+pub returns-in-Err : goal.returns-in-Err
 unfolding at_report
-returns-then-refuses c =
-    let q = asked _ _ _ _ _ c.ask-answer.ensures c.identity_asked.ensures c.ask_fix.ensures in
-    ap Stays q ∙ refused-stays _ _ (ap accepts (sym q) ∙ not-true _ (sym c.refuses.ensures ∙ c.if-refuses.true))
+returns-in-Err c = rw (← c.report_asked.ensures, c.in-Err.is)
 
--- the questions let the report through, and k is its place
-pub returns-in-At : goal.returns-in-At
-returns-in-At c =
-    let q = asked _ _ _ _ _ c.ask-answer.ensures c.identity_asked.ensures c.ask_fix.ensures in
-    let r = ap accepts (sym q) ∙ not-false _ (sym c.refuses.ensures ∙ c.if-refuses.false) in
-    rw c.vehicle.ensures (report-goes _ _ _ _ _ (sym c.seek.ensures.value ∙ c.in-At.is) r)
+pub returns-in-Ok : goal.returns-in-Ok
+unfolding at_report
+returns-in-Ok c = rw (← c.report_asked.ensures, c.in_default.is, c.vehicle.ensures, ← c.seek.ensures.value, c.in-Ok.is)
 
-pub returns-in-Before : goal.returns-in-Before
-returns-in-Before c =
-    let q = asked _ _ _ _ _ c.ask-answer.ensures c.identity_asked.ensures c.ask_fix.ensures in
-    let r = ap accepts (sym q) ∙ not-false _ (sym c.refuses.ensures ∙ c.if-refuses.false) in
-    report-goes _ _ _ _ _ (sym c.seek.ensures.value ∙ c.in-Before.is) r
+pub returns-in-Err-seek : goal.returns-in-Err-seek
+unfolding at_report
+returns-in-Err-seek c = rw (← c.report_asked.ensures, c.in_default.is, ← c.seek.ensures.value, c.in-Err-seek.is)

@@ -13,11 +13,11 @@ returns-in-Withdraw-clause-value c = rw c.in-Withdraw.is
 
 pub returns-in-OwnShip-clause-value : goal.returns-in-OwnShip-clause-value
 unfolding glance
-returns-in-OwnShip-clause-value c = c.at_setting.ensures ∙ rw (c.in-OwnShip.is, c.ask_fix.ensures)
+returns-in-OwnShip-clause-value c = c.at_setting.ensures ∙ rw (c.in-OwnShip.is, c.fix_asked.ensures)
 
 pub returns-in-Track-clause-value : goal.returns-in-Track-clause-value
 unfolding glance
-returns-in-Track-clause-value c = c.at_setting-in-Track.ensures ∙ rw (c.in-Track.is, c.ask_ends.ensures)
+returns-in-Track-clause-value c = c.at_setting-in-Track.ensures ∙ rw (c.in-Track.is, c.ends_asked.ensures)
 
 pub returns-in-Solve-clause-value : goal.returns-in-Solve-clause-value
 unfolding glance

@@ -2,10 +2,10 @@
 use Rattle.sessions.specs.Session.{pick_told}
 use Rattle.sessions.proofs.session.pick_told.Goals as goal
 
-pub returns-in-Target : goal.returns-in-Target
+pub returns-in-Ok : goal.returns-in-Ok
 unfolding pick_told
-returns-in-Target c = rw (c.identity.ensures, c.in-Target.is)
+returns-in-Ok c = rw c.in-Ok.is
 
-pub returns-in-Refused : goal.returns-in-Refused
+pub returns-in-Err : goal.returns-in-Err
 unfolding pick_told
-returns-in-Refused c = rw (c.number.ensures, c.in-Refused.is)
+returns-in-Err c = rw (c.number.ensures, c.in-Err.is)

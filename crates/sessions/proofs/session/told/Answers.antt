@@ -2,14 +2,14 @@
 use Rattle.sessions.specs.Session.{told}
 use Rattle.sessions.proofs.session.told.Goals as goal
 
-pub returns-in-Done : goal.returns-in-Done
+pub returns-in-None : goal.returns-in-None
 unfolding told
-returns-in-Done c = rw c.in-Done.is
+returns-in-None c = rw c.in-None.is
 
-pub returns-in-Solved : goal.returns-in-Solved
+pub returns-in-Some : goal.returns-in-Some
 unfolding told
-returns-in-Solved c = rw c.in-Solved.is
+returns-in-Some c = rw c.in-Some.is
 
-pub returns-in-Refused : goal.returns-in-Refused
+pub returns-in-Err : goal.returns-in-Err
 unfolding told
-returns-in-Refused c = rw (c.number.ensures, c.in-Refused.is)
+returns-in-Err c = rw (c.number.ensures, c.in-Err.is)

@@ -1,4 +1,5 @@
 -- `soonest` meets its contract.
+use Rattle.std.specs.Prelude.{Option}
 use Prim.Native.Nat.{◌+◌, ◌<◌}
 use native.Mathlib.Omega.{arith}
 use mathlib.Core.Path.{sym, ap, ◌∙◌}
@@ -20,5 +21,5 @@ loop-i-preserved c =
     let next = ap (better c.loop-i.b) (get_or-take a.n a.entries c.loop-i.i absent (omega arith)) ∙ sym c.better-b.ensures in (
       search rules,
       search rules,
-      c.loop-i.invariant.2 ∙ fold_on l c.loop-i.i absent better c.loop-i.b within ∙ ap (λ (b : Best). fold better b (drop (c.loop-i.i + 1) l)) next,
+      c.loop-i.invariant.2 ∙ fold_on l c.loop-i.i absent better c.loop-i.b within ∙ ap (λ (b : Option Best). fold better b (drop (c.loop-i.i + 1) l)) next,
     )
