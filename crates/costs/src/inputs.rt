@@ -14,9 +14,9 @@ pub(crate) fn identity(turn: u64) -> u16 {
 
 // A part of one.
 fn part(turn: u64, of: u64) -> f64
-    requires { 0 < of }
+    requires { (0 < of) × (of < 1024) }
 {
-    std::num::nearest_u64_to_f64(turn % of) / std::num::nearest_u64_to_f64(of)
+    (turn % of) as f64 / of as f64
 }
 
 // A position: the point of the unit sphere that is seen at (u, v) from its south pole, none of them opposite to another.

@@ -7,31 +7,30 @@ mod turns;
 ghost use Rattle.std.specs.Prelude.{◌≤◌, length};
 
 use std::io::Read;
+use turns::Call;
 
 // The digits of a line: two for the call, eight for how many times; then a newline.
 const CALL: usize = 2;
 
 const COUNT: usize = 8;
 
-const LINE: usize = 11;
+const LINE: usize = CALL + COUNT + 1;
 
 // Room for all that is read.
 const TEXT: usize = 4096;
 
 // The digest of each whole line.
 fn answer<P: Print>(out: &P, text: &[u8]) {
-    let mut at = 0;
-    while text.len() - at >= LINE {
-        let call = hex_digits::number_at(text, at, CALL);
-        let count = hex_digits::number_at(text, at + CALL, COUNT);
-        let run = turns::turns(turns::full(), call, count);
-        let digest = turns::digest(run);
+    for line in text.chunks_exact(LINE) {
+        let call = Call::from(hex_digits::number_at(line, 0, CALL));
+        let count = hex_digits::number_at(line, CALL, COUNT);
+        let digest = turns::digest(turns::turns(turns::full(), call, count));
         let _ = println!(out; "{digest:016x}");
-        at += LINE;
     }
 }
 
 // Reads until the text is full, the input ends or a read fails. How many bytes came?
+// By hand: the library reads to the end into a Vec alone, and no crate here has a heap.
 fn read_full<R: Read>(input: &mut R, text: &mut [u8]) -> usize
     ensures { result ≤ length text.new }
 {

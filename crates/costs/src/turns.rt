@@ -1,6 +1,6 @@
 // Turns of one call, as a caller would write them. The board of a turn is the one that the turn before left.
 use crate::inputs::{HELD, coordinates, fix, identity};
-use board::board::{fresh, own_ship, refuses, report, solve, track, withdraw};
+use board::board::{fresh, own_ship, report, solve, track, withdraw};
 use jord::positions::NVector;
 use means::NoMean;
 use plain::call::{Answer, Refusal};
@@ -10,12 +10,48 @@ use targets::asking::{mean, pick, total};
 // The earth's radius in metres.
 const EARTH: f64 = 6371000.8;
 
-// The numbers of the calls that fill a board, and of the first that asks.
-const REPORT: u64 = 2;
+// A call that leaves another board.
+#[derive(Clone, Copy)]
+pub enum Change {
+    Fresh,
+    Report,
+    // A withdrawal, and a report after it.
+    Renew,
+    OwnShip,
+    Track,
+    Solve,
+}
 
-const SOLVE: u64 = 6;
+// A call that leaves the board as it was.
+#[derive(Clone, Copy)]
+pub enum Question {
+    Mean,
+    Pick,
+    Total,
+}
 
-const ASKING: u64 = 7;
+#[derive(Clone, Copy)]
+pub enum Call {
+    Changes(Change),
+    Asks(Question),
+}
+
+// The call that a line's number names; each other number asks for the total too.
+impl From<u64> for Call {
+    fn from(number: u64) -> Call {
+        match number {
+            1 => Call::Changes(Change::Fresh),
+            2 => Call::Changes(Change::Report),
+            3 => Call::Changes(Change::Renew),
+            4 => Call::Changes(Change::OwnShip),
+            5 => Call::Changes(Change::Track),
+            6 => Call::Changes(Change::Solve),
+            7 => Call::Asks(Question::Mean),
+            8 => Call::Asks(Question::Pick),
+            _ => Call::Asks(Question::Total),
+        }
+    }
+}
 
 // A board after some turns, and the sum of what the turns answered.
 #[derive(Clone, Copy)]
@@ -26,27 +62,20 @@ pub struct Run {
 
 // A board with an own ship, a track and 64 targets, each with a line.
 pub(crate) fn full() -> Board {
-    let begun = fresh(EARTH);
-    let bare = begun.board;
-    let steered = own_ship(bare, fix(HELD));
-    let alone = steered.board;
-    let tracked = track(alone, coordinates(0), coordinates(1));
-    let empty = tracked.board;
-    let placed = turns(empty, REPORT, HELD);
-    let unsolved = placed.board;
-    let lined = turns(unsolved, SOLVE, HELD);
-    lined.board
+    let steered = own_ship(fresh(EARTH).board, fix(HELD)).board;
+    let tracked = track(steered, coordinates(0), coordinates(1)).board;
+    let placed = turns(tracked, Call::Changes(Change::Report), HELD).board;
+    turns(placed, Call::Changes(Change::Solve), HELD).board
 }
 
 // What came of a run: of its answers, and of its last board, to which a solve puts own ship and track too.
 pub(crate) fn digest(run: Run) -> u64 {
-    let last = run.board;
-    let a = solve(last, identity(0));
-    let board = a.board;
-    let answer = a.answer;
-    let solved = std::num::wrapping_add_u64(of_answer(answer), total(board) as u64);
-    let asked = std::num::wrapping_add_u64(of_mean(mean(board)), of_choice(pick(board)));
-    std::num::wrapping_add_u64(run.seen, std::num::wrapping_add_u64(solved, asked))
+    let Answered { board, answer } = solve(run.board, identity(0));
+    run.seen
+        .wrapping_add(of_answer(answer))
+        .wrapping_add(u64::from(total(board)))
+        .wrapping_add(of_mean(mean(board)))
+        .wrapping_add(of_choice(pick(board)))
 }
 
 // 0 for done, 1 for a line, or the refusal's number.
@@ -54,61 +83,55 @@ fn of_answer(answer: Answer) -> u64 {
     match answer {
         Ok(None) => 0,
         Ok(Some(_)) => 1,
-        Err(refusal) => refusal.number() as u64,
+        Err(refusal) => u64::from(refusal.number()),
     }
 }
 
 // The bits of the position's x, or the refusal's number.
 fn of_mean(mean: Result<NVector, NoMean>) -> u64 {
     match mean {
-        Ok(p) => of_position(p),
-        Err(e) => e.number() as u64,
+        Ok(p) => patterns::to_bits(p.as_vec3().x()),
+        Err(why) => u64::from(why.number()),
     }
-}
-
-fn of_position(p: NVector) -> u64 {
-    let v = p.as_vec3();
-    patterns::to_bits(v.x)
 }
 
 // The identity, or the refusal's number.
 fn of_choice(choice: Result<u16, Refusal>) -> u64 {
     match choice {
-        Ok(identity) => identity as u64,
-        Err(refusal) => refusal.number() as u64,
+        Ok(identity) => u64::from(identity),
+        Err(refusal) => u64::from(refusal.number()),
     }
 }
 
-// The call that a number names, so many times. It is chosen within the loop: a function for a turn would copy the board once more.
+// A call, so many times. It is chosen within the loop: a function for a turn would copy the board once more.
 // A call that asks leaves the board as it was, so the radius, which none asks for, is set anew: each turn has a board of its own. The last has the earth's.
-pub(crate) fn turns(start: Board, call: u64, count: u64) -> Run {
+pub(crate) fn turns(start: Board, call: Call, count: u64) -> Run {
     let mut board = start;
-    let mut seen = 0;
-    let mut turn = 0;
-    while turn < count {
-        if 0 < call && call < ASKING {
-            let a = match call {
-                1 => fresh(board.radius + 1.0),
-                2 => report(board, identity(turn), fix(turn)),
-                3 => renewed(board, turn),
-                4 => own_ship(board, fix(turn)),
-                5 => track(board, coordinates(turn), coordinates(turn + 1)),
-                _ => solve(board, identity(turn)),
-            };
-            let next = a.board;
-            board = next;
-            let answer = a.answer;
-            seen = std::num::wrapping_add_u64(seen, of_answer(answer));
-        } else {
-            let answer = match call {
-                7 => of_mean(mean(board)),
-                8 => of_choice(pick(board)),
-                _ => total(board) as u64,
-            };
-            seen = std::num::wrapping_add_u64(seen, answer);
-            board.radius = board.radius + 1.0;
+    let mut seen: u64 = 0;
+    for turn in 0..count {
+        match call {
+            Call::Changes(change) => {
+                let a = match change {
+                    Change::Fresh => fresh(board.radius + 1.0),
+                    Change::Report => report(board, identity(turn), fix(turn)),
+                    Change::Renew => renewed(board, turn),
+                    Change::OwnShip => own_ship(board, fix(turn)),
+                    Change::Track => track(board, coordinates(turn), coordinates(turn + 1)),
+                    Change::Solve => solve(board, identity(turn)),
+                };
+                board = a.board;
+                seen = seen.wrapping_add(of_answer(a.answer));
+            }
+            Call::Asks(question) => {
+                let answer = match question {
+                    Question::Mean => of_mean(mean(board)),
+                    Question::Pick => of_choice(pick(board)),
+                    Question::Total => u64::from(total(board)),
+                };
+                seen = seen.wrapping_add(answer);
+                board.radius += 1.0;
+            }
         }
-        turn += 1;
     }
     board.radius = EARTH;
     Run { board, seen }
@@ -116,14 +139,10 @@ pub(crate) fn turns(start: Board, call: u64, count: u64) -> Run {
 
 // A withdrawal, and a first report after it. The first refusal of the two is answered.
 fn renewed(start: Board, turn: u64) -> Answered {
-    let a = withdraw(start, identity(turn));
-    let without = a.board;
-    let gone = a.answer;
-    let b = report(without, identity(turn), fix(turn));
-    let board = b.board;
-    let back = b.answer;
+    let gone = withdraw(start, identity(turn));
+    let back = report(gone.board, identity(turn), fix(turn));
     Answered {
-        board,
-        answer: if refuses(gone) { gone } else { back },
+        board: back.board,
+        answer: gone.answer.and(back.answer),
     }
 }
