@@ -1,10 +1,12 @@
 // The page that results are written over. Where it has no room, nothing is written.
 use arcs::Side;
+use arcs::minor_arc::MinorArc;
 use float::trig::SinCos;
 use jord::angle::Angle;
 use jord::length::Length;
-use jord::positions::NVector;
+use jord::positions::{LatLong, NVector};
 use jord::speed::Speed;
+use jord::vehicle::Vehicle;
 use vectors::mat33::Mat33;
 use vectors::vec3::Vec3;
 use walks::Outcome;
@@ -160,6 +162,24 @@ impl Fields for NVector {
 impl Fields for Mat33 {
     fn put(self, page: &mut Page<'_>) {
         page.put((self.row0(), self.row1(), self.row2()));
+    }
+}
+
+impl Fields for LatLong {
+    fn put(self, page: &mut Page<'_>) {
+        page.put((self.latitude(), self.longitude()));
+    }
+}
+
+impl Fields for Vehicle {
+    fn put(self, page: &mut Page<'_>) {
+        page.put((self.position(), self.bearing(), self.speed()));
+    }
+}
+
+impl Fields for MinorArc {
+    fn put(self, page: &mut Page<'_>) {
+        page.put((self.start(), self.end(), self.normal()));
     }
 }
 

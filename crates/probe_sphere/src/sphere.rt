@@ -15,7 +15,7 @@ pub(crate) fn answer(f: u64, args: &mut Args, page: &mut Page) -> bool {
         0x72 => page.put(sphere_of(args).distance(args.nvector(), args.nvector())),
         0x73 => page.put(Sphere::initial_bearing(args.nvector(), args.nvector())),
         0x74 => page.put(Sphere::side(args.nvector(), args.nvector(), args.nvector())),
-        0x75 => page.put(offset(sphere_of(args), args.nvector(), args.nvector(), args.nvector())),
+        0x75 => page.put(cross_track(args)),
         0x76 => page.put(sphere_of(args).time_to_cpa(args.vehicle(), args.vehicle())),
         0x77 => page.put(meeting(args)),
         0x78 => page.put(sphere_of(args).max_time_to_intercept(args.nvector(), args.vehicle())),
@@ -33,6 +33,15 @@ pub fn sphere_of(args: &mut Args) -> Sphere {
 // The distance of p from the great circle through two positions.
 fn offset(s: Sphere, p: NVector, start: NVector, end: NVector) -> Length {
     s.cross_track_distance(p, GreatCircle::new(start, end))
+}
+
+fn cross_track(args: &mut Args) -> Length {
+    offset(
+        sphere_of(args),
+        args.nvector(),
+        args.nvector(),
+        args.nvector(),
+    )
 }
 
 fn meeting(args: &mut Args) -> Outcome {
