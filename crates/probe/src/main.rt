@@ -3,41 +3,34 @@
 
 mod call;
 mod lines;
-mod page;
 
-use lines::{Line, Turned};
+use lines::Line;
+use probe_fields::page::Page;
 use std::io::{Read, Write};
 
 // How much is read at once, and written at most.
 const PIECE: usize = 65_536;
 
-// One read, and the answers to what came; at the end of the input, the last line's. A read that fails is the end.
-fn turn<R: Read, W: Write>(input: &mut R, out: &mut W, line: Line) -> Turned {
+// One read, and the answers to what came; at the end of the input, the last line's. A read that fails is the end. Does the next turn follow?
+fn turn<R: Read, W: Write>(input: &mut R, out: &mut W, line: &mut Line) -> bool {
     let mut chunk = [0u8; PIECE];
     let n = input.read(&mut chunk).unwrap_or(0);
     if n == 0 {
-        lines::finish(out, line);
-        return Turned {
-            line,
-            goes_on: false,
-        };
+        let _ = lines::finish(out, line);
+        return false;
     }
-    let mut page = [0u8; PIECE];
-    lines::pour(out, line, &chunk[..n], &mut page)
+    let mut bytes = [0u8; PIECE];
+    let mut page = Page::new(&mut bytes);
+    lines::pour(out, line, &chunk[..n], &mut page).is_ok()
 }
 
 // Each turn but the last takes a byte at least, so no input takes 2^64 - 1 of them.
 fn main(rt: HostRuntime) {
     let mut input = rt.stdin();
     let mut out = rt.stdout();
-    let mut line = lines::empty();
-    let mut turns = u64::MAX;
-    while turns > 0 {
-        turns -= 1;
-        let t = turn(&mut input, &mut out, line);
-        let next = t.line;
-        line = next;
-        if !t.goes_on {
+    let mut line = Line::new();
+    for _ in 0..u64::MAX {
+        if !turn(&mut input, &mut out, &mut line) {
             return;
         }
     }

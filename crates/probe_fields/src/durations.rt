@@ -1,17 +1,14 @@
 // Functions 0c to 0e: durations.
-use crate::fields::{float_at, put_converted, put_float, put_refusal, whole_at};
+use crate::args::Args;
+use crate::page::Page;
 
-// How many arguments a function takes: each takes one.
-pub(crate) fn arity(f: u64) -> usize {
-    1
-}
-
-// The result fields of a function, over the page from at on, and the place past them.
-pub(crate) fn answer(f: u64, args: &[u64], page: &mut [u8], at: usize) -> usize {
+// Is f one of these? Then its result is put on the page.
+pub(crate) fn answer(f: u64, args: &mut Args, page: &mut Page) -> bool {
     match f {
-        0x0c => put_converted(page, at, duration::from_seconds(float_at(args, 0))),
-        0x0d => put_converted(page, at, duration::from_hours(float_at(args, 0))),
-        0x0e => put_float(page, at, duration::to_seconds(whole_at(args, 0))),
-        _ => put_refusal(page, at),
+        0x0c => page.put(duration::from_seconds(args.float()).map_err(|why| why.number())),
+        0x0d => page.put(duration::from_hours(args.float()).map_err(|why| why.number())),
+        0x0e => page.put(duration::to_seconds(args.whole())),
+        _ => return false,
     }
+    true
 }

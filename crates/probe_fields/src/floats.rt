@@ -1,38 +1,24 @@
 // Functions 01 to 0b, and 8e, both of sine and cosine: the floats.
-use crate::SIN_COS;
-use crate::fields::{float_at, put_bool, put_float, put_sin_cos, put_whole, whole_at};
+use crate::args::Args;
+use crate::page::Page;
 
-// How many arguments a function takes.
-pub(crate) fn arity(f: u64) -> usize {
+// Is f one of these? Then its result is put on the page.
+pub(crate) fn answer(f: u64, args: &mut Args, page: &mut Page) -> bool {
     match f {
-        0x06 | 0x09 => 2,
-        _ => 1,
+        0x01 => page.put(patterns::sign_bit(args.float())),
+        0x02 => page.put(patterns::magnitude(args.float())),
+        0x03 => page.put(patterns::to_bits(args.float())),
+        0x04 => page.put(patterns::from_bits(args.whole())),
+        0x05 => page.put(roots::sqrt(args.float())),
+        0x06 => page.put(remainders::rem(args.float(), args.float())),
+        0x07 => page.put(float::trig::sin(args.float())),
+        0x08 => page.put(float::trig::cos(args.float())),
+        0x09 => page.put(float::trig::atan2(args.float(), args.float())),
+        0x0a => page.put(float::degrees::to_radians(args.float())),
+        0x0b => page.put(float::degrees::to_degrees(args.float())),
+        // It came with request 2026-04: the number after all others.
+        0x8e => page.put(float::trig::sin_cos(args.float())),
+        _ => return false,
     }
-}
-
-// The result fields of a function, over the page from at on, and the place past them.
-pub(crate) fn answer(f: u64, args: &[u64], page: &mut [u8], at: usize) -> usize {
-    let x = float_at(args, 0);
-    match f {
-        0x01 => put_bool(page, at, patterns::sign_bit(x)),
-        0x03 => put_whole(page, at, patterns::to_bits(x)),
-        0x04 => put_float(page, at, patterns::from_bits(whole_at(args, 0))),
-        SIN_COS => put_sin_cos(page, at, float::trig::sin_cos(x)),
-        _ => put_float(page, at, value(f, x, float_at(args, 1))),
-    }
-}
-
-// The result of a function from floats to a float.
-fn value(f: u64, x: f64, y: f64) -> f64 {
-    match f {
-        0x02 => patterns::magnitude(x),
-        0x05 => roots::sqrt(x),
-        0x06 => remainders::rem(x, y),
-        0x07 => float::trig::sin(x),
-        0x08 => float::trig::cos(x),
-        0x09 => float::trig::atan2(x, y),
-        0x0a => float::degrees::to_radians(x),
-        0x0b => float::degrees::to_degrees(x),
-        _ => 0.0 / 0.0,
-    }
+    true
 }

@@ -1,61 +1,29 @@
 // Functions 30 to 40: vectors.
-use probe_fields::fields::{float_at, put_float, put_vec3, vec3_at};
+use probe_fields::args::Args;
+use probe_fields::page::Page;
 use vectors::vec3::Vec3;
 
-// How many arguments a function takes.
-pub(crate) fn arity(f: u64) -> usize {
+// Is f one of these? Then its result is put on the page.
+pub(crate) fn answer(f: u64, args: &mut Args, page: &mut Page) -> bool {
     match f {
-        0x32..=0x35 => 6,
-        0x38 | 0x39 => 6,
-        0x3c | 0x3d => 6,
-        0x3e | 0x3f => 4,
-        _ => 3,
+        0x30 => page.put(args.vec3()),
+        0x31 => page.put(Vec3::new_unit(args.float(), args.float(), args.float())),
+        0x32 => page.put(args.vec3().cross_prod(args.vec3())),
+        0x33 => page.put(args.vec3().cross_prod_unit(args.vec3())),
+        0x34 => page.put(args.vec3().dot_prod(args.vec3())),
+        0x35 => page.put(args.vec3().orthogonal_to(args.vec3())),
+        0x36 => page.put(args.vec3().orthogonal()),
+        0x37 => page.put(args.vec3().norm()),
+        0x38 => page.put(args.vec3().stable_cross_prod_unit(args.vec3())),
+        0x39 => page.put(args.vec3().stable_cross_prod(args.vec3())),
+        0x3a => page.put(args.vec3().squared_norm()),
+        0x3b => page.put(args.vec3().unit()),
+        0x3c => page.put(args.vec3().add(args.vec3())),
+        0x3d => page.put(args.vec3().sub(args.vec3())),
+        0x3e => page.put(args.vec3().mul(args.float())),
+        0x3f => page.put(args.vec3().div(args.float())),
+        0x40 => page.put(args.vec3().neg()),
+        _ => return false,
     }
-}
-
-// The result fields of a function, over the page from at on, and the place past them.
-pub(crate) fn answer(f: u64, args: &[u64], page: &mut [u8], at: usize) -> usize {
-    let v = vec3_at(args, 0);
-    let o = vec3_at(args, 3);
-    match f {
-        0x34 | 0x37 | 0x3a => put_float(page, at, number(f, v, o)),
-        0x31 => put_vec3(
-            page,
-            at,
-            Vec3::new_unit(float_at(args, 0), float_at(args, 1), float_at(args, 2)),
-        ),
-        0x30..=0x39 => put_vec3(page, at, product(f, v, o)),
-        _ => put_vec3(page, at, operator(f, v, o, float_at(args, 3))),
-    }
-}
-
-fn number(f: u64, v: Vec3, o: Vec3) -> f64 {
-    match f {
-        0x34 => v.dot_prod(o),
-        0x37 => v.norm(),
-        _ => v.squared_norm(),
-    }
-}
-
-fn product(f: u64, v: Vec3, o: Vec3) -> Vec3 {
-    match f {
-        0x32 => v.cross_prod(o),
-        0x33 => v.cross_prod_unit(o),
-        0x35 => v.orthogonal_to(o),
-        0x36 => v.orthogonal(),
-        0x38 => v.stable_cross_prod_unit(o),
-        0x39 => v.stable_cross_prod(o),
-        _ => v,
-    }
-}
-
-fn operator(f: u64, v: Vec3, o: Vec3, x: f64) -> Vec3 {
-    match f {
-        0x3b => v.unit(),
-        0x3c => v.add(o),
-        0x3d => v.sub(o),
-        0x3e => v.mul(x),
-        0x3f => v.div(x),
-        _ => v.neg(),
-    }
+    true
 }

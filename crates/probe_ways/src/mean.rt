@@ -1,45 +1,40 @@
-// Function 79: the mean of as many coordinates as the line has.
+// Functions 79 and 8d: the mean of as many coordinates, or positions, as the line has.
 use jord::positions::NVector;
+use means::lent::mean_position_of;
 use means::{NoMean, mean_position};
-use probe_fields::fields::{ARGUMENTS, float_at, put_gap, put_short, put_vec3};
+use probe_fields::args::{ARGUMENTS, Args};
+use probe_fields::page::Page;
+use vectors::vec3::Vec3;
 
-// The result fields, over the page from at on, and the place past them.
-pub(crate) fn answer(args: &[u64], n: usize, page: &mut [u8], at: usize) -> usize {
-    let cs = coordinates(args);
-    put_mean(page, at, mean_of(&cs, n))
-}
+// The most positions that a line has room for.
+const POSITIONS: usize = ARGUMENTS / 3;
 
-// The mean of the first n coordinates.
-fn mean_of(cs: &[f64; ARGUMENTS], n: usize) -> Result<NVector, NoMean> {
-    let all: &[f64] = cs;
-    if n <= all.len() {
-        return mean_position(&all[..n]);
+// Is f one of these? Then its result is put on the page.
+pub(crate) fn answer(f: u64, args: &mut Args, page: &mut Page) -> bool {
+    match f {
+        0x79 => page.put(of_coordinates(args).map_err(|why| why.number())),
+        0x8d => page.put(of_positions(args).map_err(|why| why.number())),
+        _ => return false,
     }
-    mean_position(all)
+    true
 }
 
-// The arguments as floats.
-fn coordinates(args: &[u64]) -> [f64; ARGUMENTS] {
-    let mut cs = [0.0; ARGUMENTS];
-    let mut k = 0;
-    while k < ARGUMENTS {
-        cs[k] = float_at(args, k);
-        k += 1;
+fn of_coordinates(args: &mut Args) -> Result<NVector, NoMean> {
+    let n = args.left().min(ARGUMENTS);
+    let mut coordinates = [0.0; ARGUMENTS];
+    for x in &mut coordinates[..n] {
+        *x = args.float();
     }
-    cs
+    mean_position(&coordinates[..n])
 }
 
-// 00 and the position, or the number of the reason why there is none.
-pub(crate) fn put_mean(page: &mut [u8], at: usize, m: Result<NVector, NoMean>) -> usize {
-    match m {
-        Ok(p) => put_position(page, at, p),
-        Err(e) => put_short(page, at, e.number() as u64),
+// One or two numbers left over at the end count for nothing.
+fn of_positions(args: &mut Args) -> Result<NVector, NoMean> {
+    let n = (args.left() / 3).min(POSITIONS);
+    let mut positions = [NVector::new(Vec3::ZERO); POSITIONS];
+    for p in &mut positions[..n] {
+        *p = args.nvector();
     }
-}
-
-// 00 and a position.
-pub(crate) fn put_position(page: &mut [u8], at: usize, p: NVector) -> usize {
-    let first = put_short(page, at, 0);
-    let next = put_gap(page, first);
-    put_vec3(page, next, p.as_vec3())
+    args.pass_rest();
+    mean_position_of(&positions[..n])
 }
