@@ -125,9 +125,10 @@ word-lows s h (suc n) =
     let i = word-lows s h n in
     let v : ℕ = sum_through (λ i. byte_worth i (get_or s i 0)) n in
     let b : ℕ = get_or s (suc n) 0 in
-    let m : suc b * 256 ^ suc n ≤ 256 * 256 ^ suc n = mul-le-mul_right (256 ^ suc n) (h (suc n)) in
-    (omega (arith, pow-suc 256 (suc n), i.0),
-    lows-more (suc n) v b i.0 (h (suc n)) ∙ rw (zero-add (suc n), i.1) refl)
+    let m : suc b * 256 ^ suc n ≤ 256 * 256 ^ suc n = mul-le-mul_right (256 ^ suc n) (h (suc n)) in (
+      omega (arith, pow-suc 256 (suc n), i.0),
+      lows-more (suc n) v b i.0 (h (suc n)) ∙ rw (zero-add (suc n), i.1) refl,
+    )
 
 pub le-lows : (s : List ℕ) → ((i : ℕ) → get_or s i 0 < 256) → lows_of 8 (from_le_bytes w64 s) ≡ lows_at s 0 8
 le-lows s h = (word-lows s h 7).1

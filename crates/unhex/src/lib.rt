@@ -110,7 +110,7 @@ pub fn two_at(s: &[u8], at: usize) -> u64
     ensures value { result ≡ lows_in s.now at 2 }
     ensures unchanged { s.exit.now ≡ s.entry.now }
 {
-    let [high, rest, ..] = tail(s, at) else {
+    let Some([high, rest, ..]) = s.get(at..) else {
         return 0;
     };
     low(*high) * 16 + low(*rest)
@@ -135,7 +135,10 @@ pub fn number_at(s: &[u8], at: usize, n: usize) -> u64
 {
     let width = n.min(16);
     // Digits alone need no test each.
-    if let Some(rest) = s.get(at..) && let Some(part) = rest.get(..width) && all_digits(part) {
+    if let Some(rest) = s.get(at..)
+        && let Some(part) = rest.get(..width)
+        && all_digits(part)
+    {
         return number_by(part, part.len(), |b| low(b));
     }
     number_by(tail(s, at), width, |b| digit(b))

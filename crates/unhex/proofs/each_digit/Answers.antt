@@ -8,8 +8,8 @@ use Rattle.unhex.proofs.each_digit.Goals as goal
 
 pub loop-b-preserved : goal.loop-b-preserved
 loop-b-preserved c =
-    let l = c.loop-b in
-    rw (l.invariant, c.is_digit-ok.ensures, list_all_more is_digit c.args.s.now l.b-index 0 (omega arith)) refl
+    let more = list_all_more is_digit c.args.s.now c.loop-b.b-index 0 (omega arith) in
+    cc
 
 pub returns : goal.returns
 unfolding all_digits

@@ -6,5 +6,5 @@ use Rattle.unhex.proofs.number_by.Given as goal
 abbrev pub invariant-loop-i : goal.invariant-loop-i
 invariant-loop-i g l = record {
   small : l.v < 16 ^ l.i;
-  number : (f : ℕ → ℕ) → ((b d : ℕ) → goal.F-post g l.digit b d → d ≡ f b) → l.v ≡ number_by f l.s 0 l.i
+  number : (f : ℕ → ℕ) → ((b d : ℕ) → goal.F-post g l.digit b d → d ≡ f b) → l.v ≡ number_by f l.s 0 l.i;
 }
