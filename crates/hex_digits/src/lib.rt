@@ -13,25 +13,21 @@ fn byte_of(d: u64) -> u8
     ensures { result ≡ byte_of d }
 {
     if d < 10 {
-        return b'0' + d as u8;
+        b'0' + d as u8
+    } else {
+        b'a' + (d - 10) as u8
     }
-    b'a' + (d - 10) as u8
 }
 
 // The last n digits of value over out from at on, and the place past them; where they do not fit, nothing, and at.
 pub fn put_number(out: &mut [u8], at: usize, value: u64, n: usize) -> usize
     ensures { Put out.old at (digits n value) out.new result }
 {
-    if at > out.len() {
-        return at;
-    }
-    if n > out.len() - at {
+    if at > out.len() || n > out.len() - at {
         return at;
     }
     let mut v = value;
-    let mut i = n;
-    while i > 0 {
-        i -= 1;
+    for i in (0..n).rev() {
         out[at + i] = byte_of(v % 16);
         v /= 16;
     }

@@ -2,14 +2,14 @@
 use Prim.Native.Nat.{ℕ, zero, suc, ◌+◌, ◌-◌, ◌*◌, ◌/◌, ◌%◌, ◌^◌, ◌≤◌, ◌<◌}
 use mathlib.Core.List.{List}
 use mathlib.Core.Path.{◌≡◌, refl, sym, ap, ap₂, ◌∙◌}
-use native.Mathlib.Nat.{add-zero, mod-lt, lt_of_lt_of_le, mul-le-mul_left, mul-le-mul_right, pow-suc, pow-le-pow_right}
+use native.Mathlib.Nat.{zero-add, mod-lt, lt_of_lt_of_le, mul-le-mul_left, mul-le-mul_right, pow-suc}
 use native.Mathlib.Omega.{arith}
 use lib.Bits.{bit_and, and_block, and_mask}
-use lib.Dec.{lit<}
 use lib.ListN.{get_or}
 use lib.Pow.{pow_pos, pow_mono, pow-add, split, high, low, shr-shr, field, mod-mod-pow, ones_lt}
-use Rattle.unhex.specs.Digits.{low_of, lows_at, lows_of}
-use Rattle.unhex.proofs.Read.{lows-reads, halves}
+use Rattle.std.specs.Int.{from_le_bytes, sum_through, byte_worth}
+use Rattle.std.proofs.Common.{w64}
+use Rattle.unhex.specs.Digits.{low_of, lows_at, lows_of, number_by}
 
 -- a mask that keeps the k low bits of each of m fields of j + k bits
 unfoldable pub mask : ℕ → ℕ → ℕ → ℕ
@@ -99,53 +99,36 @@ spread-joined (suc m) w =
     ∙ joined-next 8 4 m (spread (mask 4 4 m) (mask 7 1 m) (w / 256)) (omega arith)
     ∙ ap₂ (λ (u v : ℕ). v * 2 ^ (4 * m) + u) (spread-joined m (w / 256)) (ap₂ (λ (u v : ℕ). (u + v * 9) % 16) a b)
 
-low-one : (s : List ℕ) (at : ℕ) → lows_at s at 1 ≡ low_of (get_or s at 0)
-unfolding lows_at
-low-one s at = rw (add-zero at) (omega arith)
-
-four-bits : (n : ℕ) → 2 ^ (4 * n) ≡ 16 ^ n
-four-bits zero = refl
-four-bits (suc n) =
-    let m : 4 * suc n ≡ 4 * n + 4 = omega arith in
-    ap (λ (k : ℕ). 2 ^ k) m ∙ pow-add 2 (4 * n) 4 ∙ ap (λ (k : ℕ). k * 16) (four-bits n) ∙ sym (pow-suc 16 n)
-
--- v is made of the n bytes of s from `at` on, the first lowest
-pub record Word (s : List ℕ) (at n v : ℕ) : Type 0 where
-  pub small : v < 256 ^ n
-  pub lows : lows_of n v ≡ lows_at s at n
-
-pub word_none : (s : List ℕ) (at : ℕ) → Word s at 0 0
-unfolding lows_of lows_at
-word_none s at = record { small = lit< tt; lows = refl }
-
--- one more byte before those that are there
-word_more : (s : List ℕ) (at n v : ℕ) {b : ℕ} → b ≡ get_or s at 0 → b < 256 → Word s (at + 1) n v → Word s at (suc n) (v * 256 + b)
+-- one byte more above n bytes is one digit more
+lows-more : (n v b : ℕ) → v < 256 ^ n → b < 256 → lows_of (suc n) (v + b * 256 ^ n) ≡ lows_of n v * 16 + low_of b
 unfolding lows_of
-word_more s at n v e l w =
-    let m : 1 + n ≡ suc n = omega arith in
-    record {
-      small = omega (arith, pow-suc 256 n, w.small);
-      lows = rw (high v 8 l, low v 8 l, e, w.lows, four-bits n)
-          (sym (ap (lows_at s at) (sym m) ∙ halves lows-reads s at 1 n ∙ ap (λ (d : ℕ). d * 16 ^ n + lows_at s (at + 1) n) (low-one s at)));
-    }
+lows-more zero v b h k =
+    let z : v + b * 256 ^ 0 ≡ b = omega arith in
+    let m : b % 256 ≡ b = omega arith in
+    rw (z, m) (omega arith)
+lows-more (suc n) v b h k =
+    let e : v + b * 256 ^ suc n ≡ v + b * 256 ^ n * 256 = rw (pow-suc 256 n) (omega arith) in
+    let p : (v + b * 256 ^ n * 256) % 256 ≡ v % 256 = omega arith in
+    let q : (v + b * 256 ^ n * 256) / 256 ≡ v / 256 + b * 256 ^ n = omega arith in
+    let m : 4 * suc n ≡ 4 * n + 4 = omega arith in
+    let l : v / 256 < 256 ^ n = omega (arith, pow-suc 256 n) in
+    rw (e, p, q, lows-more n (v / 256) b l k, m, pow-add 2 (4 * n) 4) (omega arith)
 
--- the loop's step, from the last of eight bytes to the first
-pub word_next : (s : List ℕ) (at i v : ℕ) {b : ℕ} → 0 < i → i ≤ 8 → b ≡ get_or s (at + (i - 1)) 0 → b < 256 → Word s (at + i) (8 - i) v
-    → Word s (at + (i - 1)) (8 - (i - 1)) (v * 256 + b)
-word_next s at i v {b} h k e l w =
-    let p : at + i ≡ at + (i - 1) + 1 = omega arith in
-    let q : 8 - (i - 1) ≡ suc (8 - i) = omega arith in
-    rw q (word_more s (at + (i - 1)) (8 - i) v e l (rw (← p) w))
+-- a word made of bytes, the first lowest
+word-lows : (s : List ℕ) → ((i : ℕ) → get_or s i 0 < 256) → (n : ℕ)
+    → let v = sum_through (λ i. byte_worth i (get_or s i 0)) n in (v < 256 ^ suc n) × (lows_of (suc n) v ≡ number_by low_of s 0 (suc n))
+unfolding lows_of number_by
+word-lows s h zero =
+    let m : get_or s 0 0 % 256 ≡ get_or s 0 0 = omega (arith, h 0) in
+    (h 0, rw m (omega arith))
+word-lows s h (suc n) =
+    let i = word-lows s h n in
+    let v : ℕ = sum_through (λ i. byte_worth i (get_or s i 0)) n in
+    let b : ℕ = get_or s (suc n) 0 in
+    let m : suc b * 256 ^ suc n ≤ 256 * 256 ^ suc n = mul-le-mul_right (256 ^ suc n) (h (suc n)) in (
+      omega (arith, pow-suc 256 (suc n), i.0),
+      lows-more (suc n) v b i.0 (h (suc n)) ∙ rw (zero-add (suc n), i.1) refl,
+    )
 
--- while there are fewer than eight one more fits 64 bits
-pub word_room : (s : List ℕ) (at i v : ℕ) → 0 < i → Word s at (8 - i) v → v * 256 + 256 ≤ 2 ^ 64
-word_room s at i v h w =
-    let l : suc (8 - i) ≤ 8 = omega arith in
-    let a : 256 ^ suc (8 - i) ≤ 256 ^ 8 = pow-le-pow_right {n = 256} (lit< tt) l in
-    omega (arith, pow-suc 256 (8 - i), w.small)
-
-pub word-whole : (s : List ℕ) (at i v : ℕ) → i ≡ 0 → Word s (at + i) (8 - i) v → lows_of 8 v ≡ lows_at s at 8
-word-whole s at i v z w =
-    let p : at + i ≡ at = omega arith in
-    let q : 8 - i ≡ 8 = omega arith in
-    (rw (p, q) at w).lows
+pub le-lows : (s : List ℕ) → ((i : ℕ) → get_or s i 0 < 256) → lows_of 8 (from_le_bytes w64 s) ≡ lows_at s 0 8
+le-lows s h = (word-lows s h 7).1

@@ -1,44 +1,34 @@
 // Lowercase hexadecimal digits read out of lent bytes.
 #![tactic(auto)]
 
-ghost use Rattle.std.specs.Prelude.{◌≡◌, ◌+◌, ◌<◌, ◌≤◌, min, true, length, take, drop, get_or};
-ghost use Rattle.unhex.specs.Digits.{is_digit, all_digits, digit_of, hex_at, low_of, lows_at, lows_in, lows_of};
+ghost use Rattle.std.specs.Prelude.{ℕ, ◌≡◌, ◌^◌, ◌<◌, ◌≤◌, min, drop};
+ghost use Rattle.std.specs.List.{list_all};
+ghost use Rattle.unhex.specs.Digits.{is_digit, all_digits, digit_of, hex_at, low_of, lows_at, lows_in, lows_of, number_by};
 
 // Is b one of 0 to 9 and a to f?
 pub fn is_digit(b: u8) -> bool
     ensures { result ≡ is_digit b }
 {
-    // No branch: a loop over it is then done 16 bytes at a time.
-    ((b >= b'0') & (b <= b'9')) | ((b >= b'a') & (b <= b'f'))
+    // No branch between the two: a loop over it is then done 16 bytes at a time.
+    matches!(b, b'0'..=b'9') | matches!(b, b'a'..=b'f')
 }
 
-// Are all bytes of s digits? Byte by byte.
+// Are all bytes of s digits? No early return: the compiler then tests 16 at once.
 fn each_digit(s: &[u8]) -> bool
     ensures { result ≡ all_digits s.now }
 {
     let mut ok = true;
-    let mut i = 0;
-    while i < s.len() {
-        ok = ok & is_digit(s[i]);
-        i += 1;
+    for b in s {
+        ok &= is_digit(*b);
     }
     ok
 }
 
-// Are the 16 bytes of s from at on digits?
-fn block_of_digits(s: &[u8], at: usize) -> bool
-    requires { at + 16 ≤ length s.now }
-    ensures { result ≡ all_digits (take 16 (drop at s.now)) }
+// Are all bytes of these blocks digits?
+fn each_block(blocks: &[[u8; 16]]) -> bool
+    ensures { result ≡ list_all all_digits blocks.now }
 {
-    let part = &s[at..at + 16];
-    let mut ok = true;
-    let mut i = 0;
-    // No early return, and a known number of turns: the compiler then tests all 16 at once.
-    while i < 16 {
-        ok = ok & is_digit(part[i]);
-        i += 1;
-    }
-    ok
+    blocks.iter().all(|block| each_digit(block))
 }
 
 // Are all bytes of s digits?
@@ -46,58 +36,23 @@ pub fn all_digits(s: &[u8]) -> bool
     ensures value { result ≡ all_digits s.now }
     ensures unchanged { s.exit.now ≡ s.entry.now }
 {
-    if s.len() < 16 {
+    let Some(last) = s.last_chunk::<16>() else {
         return each_digit(s);
-    }
-    let last = s.len() - 16;
+    };
     // The last block may overlap the one before it: no byte is then tested by itself.
-    let mut ok = block_of_digits(s, last);
-    let mut i = 0;
-    while i < last {
-        ok = ok & block_of_digits(s, i);
-        i += 16;
-    }
-    ok
+    let (blocks, _) = s[..s.len() - 1].as_chunks::<16>();
+    each_block(blocks) & each_digit(last)
 }
 
 // The number of a digit, and 0 of any other byte.
 fn digit(b: u8) -> u64
     ensures { result ≡ digit_of b }
 {
-    if !is_digit(b) {
-        return 0;
+    match b {
+        b'0'..=b'9' => (b - b'0') as u64,
+        b'a'..=b'f' => (b - b'a') as u64 + 10,
+        _ => 0,
     }
-    if b <= b'9' {
-        return (b - b'0') as u64;
-    }
-    (b - b'a') as u64 + 10
-}
-
-// The byte of s that stands i places past at, and 0 past the end of s.
-fn byte_at(s: &[u8], at: usize, i: usize) -> u8
-    ensures { result ≡ get_or s.now (at + i) 0 }
-{
-    if at > s.len() {
-        return 0;
-    }
-    if i < s.len() - at {
-        return s[at + i];
-    }
-    0
-}
-
-// The number of the n digits of s from at on, byte by byte: one that is no digit counts as 0, and so does a place past the end.
-fn number_of_any(s: &[u8], at: usize, n: usize) -> u64
-    requires { n ≤ 16 }
-    ensures { result ≡ hex_at s.now at n }
-{
-    let mut v: u64 = 0;
-    let mut i: usize = 0;
-    while i < n {
-        v = v * 16 + digit(byte_at(s, at, i));
-        i += 1;
-    }
-    v
 }
 
 // The low four bits of a byte, of nine more where its bit of 64 is set, with no branch: of a digit its number.
@@ -108,30 +63,16 @@ fn low(b: u8) -> u64
     (d % 16 + d / 64 % 2 * 9) % 16
 }
 
-// The number of a slice of at most 16 bytes by their low bits.
-fn lows_of(s: &[u8]) -> u64
-    requires { length s.now ≤ 16 }
-    ensures { result ≡ lows_at s.now 0 (length s.now) }
+// The number of the first n bytes of s, high digit first, each by its digit; past the end of s stands a 0.
+fn number_by<F: Fn(u8) -> u64>(s: &[u8], n: usize, digit: F) -> u64
+    requires few { n ≤ 16 }
+    requires callable { F.IsAlwaysCallable digit }
+    requires small { (b d : ℕ) → F.post digit b d → d < 16 }
+    ensures { (f : ℕ → ℕ) → ((b d : ℕ) → F.post digit b d → d ≡ f b) → result ≡ number_by f s.now 0 n }
 {
-    let mut v: u64 = 0;
-    let mut i: usize = 0;
-    while i < s.len() {
-        v = v * 16 + low(s[i]);
-        i += 1;
-    }
-    v
-}
-
-// The eight bytes of s from at on as one word, the first byte lowest: the compiler makes one load of them.
-fn eight(s: &[u8], at: usize) -> u64
-    requires { at + 8 ≤ length s.now }
-    ensures { lows_of 8 result ≡ lows_at s.now at 8 }
-{
-    let mut v: u64 = 0;
-    let mut i: usize = 8;
-    while i > 0 {
-        i -= 1;
-        v = v * 256 + s[at + i] as u64;
+    let mut v = 0;
+    for i in 0..n {
+        v = v * 16 + digit(s.get(i).copied().unwrap_or(0));
     }
     v
 }
@@ -148,11 +89,19 @@ fn folded(w: u64) -> u64
     (z & 0xffff_ffff) * 65536 + ((z >> 32) & 0xffff_ffff)
 }
 
-// The lesser of n and 16: no more digits fit a word.
-fn at_most_16(n: usize) -> usize
-    ensures { result ≡ min n 16 }
+// The number of eight bytes by their low bits.
+fn eight(bytes: &[u8; 8]) -> u64
+    ensures value { result ≡ lows_at bytes.now 0 8 }
+    ensures fits { result < 2 ^ 32 }
 {
-    if n < 16 { n } else { 16 }
+    folded(u64::from_le_bytes(*bytes))
+}
+
+// The bytes of s from at on, and none where it ends before.
+fn tail(s: &[u8], at: usize) -> &[u8]
+    ensures { result.now ≡ drop at s.now }
+{
+    s.get(at..).unwrap_or_default()
 }
 
 // The number of the two digits of s from at on, for who knows that they are digits: a byte that is none counts by its low bits alone.
@@ -161,13 +110,10 @@ pub fn two_at(s: &[u8], at: usize) -> u64
     ensures value { result ≡ lows_in s.now at 2 }
     ensures unchanged { s.exit.now ≡ s.entry.now }
 {
-    if at > s.len() {
+    let Some([high, rest, ..]) = s.get(at..) else {
         return 0;
-    }
-    if s.len() - at < 2 {
-        return 0;
-    }
-    low(s[at]) * 16 + low(s[at + 1])
+    };
+    low(*high) * 16 + low(*rest)
 }
 
 // The number of the 16 digits of s from at on, for who knows that they are digits: a byte that is none counts by its low bits alone. 0 where s ends before.
@@ -175,15 +121,10 @@ pub fn sixteen_at(s: &[u8], at: usize) -> u64
     ensures value { result ≡ lows_in s.now at 16 }
     ensures unchanged { s.exit.now ≡ s.entry.now }
 {
-    if at > s.len() {
+    let [high, rest, ..] = tail(s, at).as_chunks::<8>().0 else {
         return 0;
-    }
-    if s.len() - at < 16 {
-        return 0;
-    }
-    let high = folded(eight(s, at));
-    let rest = folded(eight(s, at + 8));
-    high * 4294967296 + rest
+    };
+    eight(high) * 4294967296 + eight(rest)
 }
 
 // The number of the n digits of s from at on, high digit first, of the first 16 of them where n is more.
@@ -192,15 +133,13 @@ pub fn number_at(s: &[u8], at: usize, n: usize) -> u64
     ensures value { result ≡ hex_at s.now at (min n 16) }
     ensures unchanged { s.exit.now ≡ s.entry.now }
 {
-    let width = at_most_16(n);
-    if at <= s.len() {
-        if width <= s.len() - at {
-            let part = &s[at..at + width];
-            // Digits alone need no test each.
-            if all_digits(part) {
-                return lows_of(part);
-            }
-        }
+    let width = n.min(16);
+    // Digits alone need no test each.
+    if let Some(rest) = s.get(at..)
+        && let Some(part) = rest.get(..width)
+        && all_digits(part)
+    {
+        return number_by(part, part.len(), |b| low(b));
     }
-    number_of_any(s, at, width)
+    number_by(tail(s, at), width, |b| digit(b))
 }

@@ -3,10 +3,11 @@ use Prim.Native.Nat.{ℕ, zero, suc, ◌+◌, ◌-◌, ◌/◌, ◌%◌, ◌≤�
 use mathlib.Core.List.{List}
 use mathlib.Core.Path.{◌≡◌, sym, ◌∙◌}
 use native.Mathlib.Omega.{arith}
-use lib.ListN.{length, set, length-set}
+use lib.ListN.{length, set}
 use Rattle.hex_digits.specs.Hex.{byte_of, digits}
 use Rattle.hex_digits.specs.Write.{over}
 use Rattle.hex_digits.proofs.Write.{length_digits, over-nil, over-set, put-stays, put-fits}
+use Rattle.hex_digits.proofs.put_number.Goals.{then-at-out-via-then-at-out, then-at-out-via-else-at-out+then-n-out}
 use Rattle.hex_digits.proofs.put_number.Goals as goal
 
 -- the last of i digits is stored, and those before it are left to write
@@ -20,16 +21,17 @@ digit-stored xs at (suc j) v p h e =
     rw (k, e) (rw l at (over-set xs (digits j (v / 16)) at (byte_of (v % 16)) (omega arith)))
 
 pub returns-then-at-out : goal.returns-then-at-out
-returns-then-at-out c = put-stays (omega (arith, length_digits c.args.n c.args.value))
-
-pub returns-then-n-out : goal.returns-then-n-out
-returns-then-n-out c = put-stays (omega (arith, length_digits c.args.n c.args.value))
+returns-then-at-out c =
+    let n = length_digits c.args.n c.args.value in
+    elim c.then-at-out.branch [
+      | then-at-out-via-then-at-out w ↦ put-stays (omega arith)
+      | then-at-out-via-else-at-out+then-n-out w ↦ put-stays (omega arith)
+    ]
 
 pub loop-i-preserved : goal.loop-i-preserved
 loop-i-preserved c =
     let l = c.loop-i in
-    let a = c.args in
-    (omega arith, simp length-set l.invariant.1, digit-stored l.out a.at l.i l.v (omega arith) (omega arith) c.byte_of.ensures ∙ l.invariant.2)
+    digit-stored l.out c.args.at l.i l.v (omega arith) (omega arith) c.byte_of.ensures ∙ l.invariant
 
 pub returns : goal.returns
 unfolding digits
@@ -38,4 +40,4 @@ returns c =
     let a = c.args in
     let z : l.i ≡ 0 = omega arith in
     let n = length_digits a.n a.value in
-    put-fits (omega arith) (sym (over-nil l.out a.at) ∙ (rw z at l.invariant.2)) (omega arith)
+    put-fits (omega arith) (sym (over-nil l.out a.at) ∙ (rw z at l.invariant)) (omega arith)

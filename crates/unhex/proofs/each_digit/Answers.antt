@@ -1,17 +1,18 @@
 -- `each_digit` meets its contract.
-use mathlib.Core.Path.{sym, ◌∙◌}
-use native.Mathlib.Omega.{arith}
-use Rattle.unhex.proofs.Read.{digits-on, digits-end}
+use Rattle.std.proofs.Common.{arith, ◌∙◌, ap, refl}
+use Rattle.std.proofs.lemmas.List.{take_all}
+use Rattle.std.proofs.lemmas.List.Folds.{list_all_more}
+use Rattle.std.specs.List.{list_all}
+use Rattle.unhex.specs.Digits.{is_digit, all_digits}
 use Rattle.unhex.proofs.each_digit.Goals as goal
 
-pub loop-i-preserved : goal.loop-i-preserved
-loop-i-preserved c =
-    let l = c.loop-i in
-    let s = c.args.s.now in
-    (omega arith, digits-on s l.i l.ok (omega arith) c.is_digit-ok.ensures ∙ l.invariant.1)
+pub loop-b-preserved : goal.loop-b-preserved
+loop-b-preserved c =
+    let more = list_all_more is_digit c.args.s.now c.loop-b.b-index 0 (omega arith) in
+    cc
 
 pub returns : goal.returns
+unfolding all_digits
 returns c =
-    let l = c.loop-i in
-    let s = c.args.s.now in
-    sym (digits-end s l.i l.ok (omega arith)) ∙ l.invariant.1
+    let l = c.loop-b in
+    l.invariant ∙ ap (list_all is_digit) (take_all l.b-index c.args.s.now (omega arith))

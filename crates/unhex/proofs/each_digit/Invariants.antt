@@ -1,13 +1,8 @@
--- The invariant: all bytes are digits just where those passed are and all from i on are.
-use Prim.Native.Nat.{◌≤◌, ◌-◌}
-use mathlib.Core.Bool.{◌&&◌}
-use mathlib.Core.Path.{◌≡◌}
-use lib.ListN.{length, drop}
-use Rattle.unhex.specs.Digits.{all_digits}
+-- The invariant: ok says whether the bytes passed are digits.
+use Rattle.std.proofs.Common.{◌≡◌, take}
+use Rattle.std.specs.List.{list_all}
+use Rattle.unhex.specs.Digits.{is_digit}
 use Rattle.unhex.proofs.each_digit.Given as goal
 
-abbrev pub invariant-loop-i : goal.invariant-loop-i
-invariant-loop-i l = (l.i ≤ length l.s) × ((l.ok && all_digits (drop l.i l.s)) ≡ all_digits l.s)
-
-abbrev pub decreases-loop-i : goal.decreases-loop-i
-decreases-loop-i l = length l.s - l.i
+abbrev pub invariant-loop-b : goal.invariant-loop-b
+invariant-loop-b l = l.ok ≡ list_all is_digit (take l.b-index l.s)
