@@ -33,32 +33,6 @@ use Rattle.questions.proofs.Chains.{ask-fix, ask-ends}
 use Rattle.plain.proofs.Listed.{at-most-le, at-most-same}
 use Rattle.plain.proofs.Played.{heard-accepted}
 
--- ---- a search has passed i of the first n entries
-
-module _ (x n : ℕ) (es : List Target) (i : ℕ) (fit : n ≤ length es) (h : spot_from 0 x (take n es) ≡ spot_from i x (drop i (take n es))) where
-  next : i < n → drop i (take n es) ≡ get_or es i absent ∷ drop (suc i) (take n es)
-  next below =
-      let l : i < length (take n es) = rw (length-take-le n es) below in
-      rw (drop-cons (take n es) i absent, get_or-take n es i absent)
-
-  pub entry-below : i < n → (get_or es i absent).identity < x → spot_from 0 x (take n es) ≡ spot_from (i + 1) x (drop (i + 1) (take n es))
-  unfolding spot_from spot_in
-  entry-below within b = h ∙ rw (next within, lt-ltb (get_or es i absent).identity x b, add-one)
-
-  pub entry-same : i < n → x ≤ (get_or es i absent).identity → x ≡ (get_or es i absent).identity → Ok i ≡ spot_from 0 x (take n es)
-  unfolding spot_from spot_in
-  entry-same within b e = sym (h ∙ rw (next within, le-ltb (get_or es i absent).identity x b, eq-eqb x (get_or es i absent).identity e))
-
-  pub entry-above : i < n → x ≤ (get_or es i absent).identity → (x ≡ (get_or es i absent).identity → ⊥) → Err i ≡ spot_from 0 x (take n es)
-  unfolding spot_from spot_in
-  entry-above within b e = sym (h ∙ rw (next within, le-ltb (get_or es i absent).identity x b, ne_eqb x (get_or es i absent).identity e))
-
-  pub entry-none : n ≤ i → Err i ≡ spot_from 0 x (take n es)
-  unfolding spot_from spot_in
-  entry-none out =
-      let e : drop i (take n es) ≡ [] = drop_of_length-le (take n es) {i = i} (rw (length-take-le n es) out) in
-      sym (h ∙ rw e)
-
 -- ---- the changes
 
 -- a count that is at most 64 already
@@ -120,11 +94,11 @@ solve-changes i a s h ts full q e =
 -- ---- a call of the code
 
 -- the search is one of the plain board's targets
-pub sought-is : (ts : Targets) (n x y : ℕ) (r : Sought) → Seeks ts.entries n x r → n ≡ at_most ts.count → x ≡ y
+pub sought-is : (ts : Targets) (n x y : ℕ) (r : Sought) → Seeks (take n ts.entries) x r → n ≡ at_most ts.count → x ≡ y → length ts.entries ≡ most_targets
     → (r.spot ≡ spot_from 0 y (listed ts)) × (r.found ≡ find y (listed ts)) × (n ≡ length (listed ts))
 unfolding listed
-sought-is ts n x y r k e f =
-    (k.spot_is ∙ rw (e, f), k.found_is ∙ rw (e, f), e ∙ counted_is ts.entries ts.count k.length_is)
+sought-is ts n x y r k e f full =
+    (k.spot_is ∙ rw (e, f), k.found_is ∙ rw (e, f), e ∙ counted_is ts.entries ts.count full)
 
 -- the questions put to the parts are those put to the plain board
 parts-answer : (p : Plain) (c : Call) → answer_by p.radius p.own p.track (find (name_of c) p.targets) (length p.targets) c ≡ answer p c

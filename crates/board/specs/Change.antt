@@ -25,11 +25,10 @@ name_of (OwnShip f) = 0
 name_of (Track s e) = 0
 name_of (Solve i) = i
 
--- a search of the first n entries: where the identity stands or would, and what is held under it
-pub record Seeks (es : List Target) (n x : ℕ) (r : Sought) : Type 0 where
-  pub length_is : length es ≡ most_targets
-  pub spot_is : r.spot ≡ spot_from 0 x (take n es)
-  pub found_is : r.found ≡ find x (take n es)
+-- a search of these targets: where the identity stands or would, and what is held under it
+pub record Seeks (l : List Target) (x : ℕ) (r : Sought) : Type 0 where
+  pub spot_is : r.spot ≡ spot_from 0 x l
+  pub found_is : r.found ≡ find x l
 
 -- the answer to a call of a board with these parts, where n targets stand and x is held under the identity that the call names
 abbrev pub answer_by : Float → Option Vehicle → Option Ends → Option Held → ℕ → Call → Answer

@@ -9,11 +9,11 @@ use jord::vehicle::Vehicle;
 use plain::call::{Answer, Call, Coordinates, Fix};
 use plain::line::Ends;
 use plain::state::{Answered, Board};
-use plain::targets::{Held, MOST_TARGETS, Target, Targets};
+use plain::targets::{Held, Target, Targets};
 use questions::call::{ends, vehicle};
 use questions::line::{raise, solve_line};
 use questions::{ends_asked, fix_asked, held_asked, identity_asked, radius_asked, room_asked, see};
-use targets::{Change, Sought, bared, closed, empty, inserted, least};
+use targets::{Change, Sought, bared, closed, empty, inserted, least, seek};
 
 // A fresh board: only the radius. Refused where the radius is not finite and above zero.
 pub fn fresh(radius: f64) -> Answered
@@ -77,7 +77,7 @@ pub fn hear(board: Board, call: Call) -> Answered
     let targets = board.targets;
     let mut entries = targets.entries;
     let n = least(targets.count);
-    let sought = seek_in(entries, n, name_of(call));
+    let sought = seek_in(&entries[..n], name_of(call));
     let spot = sought.spot;
     let found = sought.found;
     let answer = answer_of(board.radius, own, track, found, n, call);
@@ -217,34 +217,16 @@ fn total_after(answer: Answer, total: u32) -> u32
     }
 }
 
-// Where an identity stands among the first n entries, or before which it would, and what is held under it.
-fn seek_in(entries: [Target; MOST_TARGETS], n: usize, identity: u16) -> Sought
-    requires { n ≤ most_targets }
-    ensures { code.Seeks entries n identity result }
+// Where an identity stands among these targets, or before which it would, and what is held under it.
+fn seek_in(among: &[Target], identity: u16) -> Sought
+    ensures { code.Seeks among.now identity result }
 {
-    let mut i = 0;
-    while i < n {
-        let k = entries[i].identity;
-        if identity <= k {
-            if identity == k {
-                let t = entries[i];
-                let held = t.held;
-                return Sought {
-                    spot: Ok(i),
-                    found: Some(held),
-                };
-            }
-            return Sought {
-                spot: Err(i),
-                found: None,
-            };
-        }
-        i += 1;
-    }
-    Sought {
-        spot: Err(i),
-        found: None,
-    }
+    let spot = seek(among, identity);
+    let found = match spot {
+        Ok(p) => Some(among[p].held),
+        Err(_) => None,
+    };
+    Sought { spot, found }
 }
 
 // What an accepted call with this answer does to the targets, where the identity that it names stands there and this is held under it.

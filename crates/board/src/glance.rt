@@ -11,7 +11,7 @@ use plain::state::Board;
 use plain::targets::{Held, MOST_TARGETS, Target, Targets};
 use questions::call::vehicle;
 use questions::{ends_asked, fix_asked, identity_asked};
-use targets::seek;
+use targets::{least, seek};
 
 // All of a board but the entries of its targets.
 #[derive(Clone, Copy)]
@@ -92,7 +92,8 @@ fn at_report(count: usize, ids: &[u16], identity: u16, fix: Fix) -> Hint
     if let Err(refusal) = report_asked(identity, fix) {
         return Hint::Stays(Err(refusal));
     }
-    match seek(ids, count, identity) {
+    let n = least(count).min(ids.len());
+    match seek(&ids[..n], identity) {
         Ok(p) => {
             let held = Held {
                 report: vehicle(fix),

@@ -2,6 +2,8 @@
 -- the plain board's targets.
 use native.Mathlib.Omega.{arith}
 use Prim.Native.Nat.{◌<◌}
+use borrow.Author.Rules.{rules}
+use lib.ListN.{length}
 use mathlib.Core.Bool.{false≢true, not}
 use mathlib.Core.Path.{◌≡◌, refl, sym, ap, subst, ◌∙◌}
 use Rattle.targets.specs.declared.Change.{Change}
@@ -18,7 +20,7 @@ pub returns-then-is_err : goal.returns-then-is_err
 unfolding plain listed
 returns-then-is_err c =
     let a = c.args in
-    let s = sought-is a.board.targets _ _ _ _ c.seek_in-sought.ensures c.least-n.ensures c.name_of.ensures in
+    let s = sought-is a.board.targets _ _ _ _ c.seek_in-sought.ensures c.least-n.ensures c.name_of.ensures (search rules) in
     let k = answered-is a.board a.call _ _ _ c.answer_of-answer.ensures s.1 s.2 in
     record {
       answer_is = k;
@@ -32,9 +34,9 @@ unfolding Within
 place-below c =
     let a = c.args in
     let k = c.seek_in-sought.ensures in
-    let s = sought-is a.board.targets _ _ _ _ k c.least-n.ensures
-    c.name_of.ensures in
-    let w = within-is a.board a.call _ _ _ _ k.length_is s.0 s.1 c.change_of-change.ensures in
+    let full : length a.board.targets.entries ≡ most_targets = search rules in
+    let s = sought-is a.board.targets _ _ _ _ k c.least-n.ensures c.name_of.ensures full in
+    let w = within-is a.board a.call _ _ _ _ full s.0 s.1 c.change_of-change.ensures in
     let v = subst (λ (r : Change). Within r (at_most a.board.targets.count)) c.in-Stores.is w in
     omega (arith, v, at-most-le a.board.targets.count)
 
@@ -49,8 +51,9 @@ unfolding entries_after
 returns c =
     let a = c.args in
     let k = c.seek_in-sought.ensures in
+    let full : length a.board.targets.entries ≡ most_targets = search rules in
     let n = c.least-n.ensures in
-    let s = sought-is a.board.targets _ _ _ _ k n c.name_of.ensures in
+    let s = sought-is a.board.targets _ _ _ _ k n c.name_of.ensures full in
     let q = answered-is a.board a.call _ _ _ c.answer_of-answer.ensures s.1 s.2 in
     let yes' = ok-accepted c.answer_of-answer.result ∙ c.is_err.ensures.negation ∙ ap not c.if-is_err.false in
     -- each arm leaves what its change makes of the entries
@@ -66,6 +69,6 @@ returns c =
       answer_is = q;
       board_is =
           rw (c.total_after.ensures, c.track_after.ensures, c.own_after.ensures)
-          (changed-is a.board a.call _ _ _ _ k.length_is s.0 s.1 c.change_of-change.ensures _ _ q yes' arms.1 (c.count_after.ensures ∙ rw (arms.0, n)));
+          (changed-is a.board a.call _ _ _ _ full s.0 s.1 c.change_of-change.ensures _ _ q yes' arms.1 (c.count_after.ensures ∙ rw (arms.0, n)));
       refused_keeps = λ e. absurd (false≢true (sym e ∙ yes'));
     }

@@ -1,34 +1,26 @@
 -- `seek_in` meets its contract.
-use native.Mathlib.Omega.{arith}
-use mathlib.Core.Path.{sym}
-use borrow.Author.Rules.{rules}
-use Rattle.targets.proofs.Slots.{found_at, found_none}
-use Rattle.board.proofs.Changes.{entry-below, entry-same, entry-above, entry-none}
+use Rattle.std.proofs.Common.{arith, sym, ◌∙◌}
+use Rattle.targets.proofs.Arrays.{absent, held-within}
+use Rattle.targets.proofs.Spots.{stands_at, belongs-at}
+use Rattle.targets.specs.Slots.{spot_from}
 use Rattle.board.proofs.board.seek_in.Goals as goal
 
-pub returns-then-identity-k-2 : goal.returns-then-identity-k-2
-returns-then-identity-k-2 c =
-    let l = c.loop-i in
-    let a = c.args in
-    let s = entry-same a.identity a.n a.entries l.i (omega arith) l.invariant.3 (omega arith) c.if-identity-k.true c.if-identity-k-2.true in
-    record { length_is = l.invariant.2; spot_is = s; found_is = sym (found_at a.entries a.n l.invariant.2 l.invariant.1 a.identity l.i (sym s)) }
+pub returns-in-Ok : goal.returns-in-Ok
+unfolding spot_from
+returns-in-Ok c =
+    let at = sym c.in-Ok.is ∙ c.seek-spot.ensures in
+    record { spot_is = at; found_is = sym (stands_at c.args.identity c.args.among.now c.in-Ok.p (sym at)).looked }
 
-pub returns-then-identity-k : goal.returns-then-identity-k
-returns-then-identity-k c =
-    let l = c.loop-i in
-    let a = c.args in
-    let s = entry-above a.identity a.n a.entries l.i (omega arith) l.invariant.3 (omega arith) c.if-identity-k.true c.if-identity-k-2.false in
-    record { length_is = l.invariant.2; spot_is = s; found_is = sym (found_none a.entries a.n l.invariant.2 l.invariant.1 a.identity l.i (sym s)) }
+pub returns-in-Err : goal.returns-in-Err
+unfolding spot_from
+returns-in-Err c =
+    let at = sym c.in-Err.is ∙ c.seek-spot.ensures in
+    record { spot_is = c.seek-spot.ensures; found_is = sym (belongs-at c.args.identity c.args.among.now _ (sym at)).looked }
 
-pub loop-i-preserved : goal.loop-i-preserved
-loop-i-preserved c =
-    let l = c.loop-i in
-    let a = c.args in
-    (search rules, search rules, search rules, entry-below a.identity a.n a.entries l.i (omega arith) l.invariant.3 (omega arith) c.if-identity-k.false)
+pub offset_bounds-among-p : goal.offset_bounds-among-p
+unfolding spot_from
+offset_bounds-among-p c = omega (arith, held-within 0 c.args.identity c.args.among.now c.in-Ok.p (sym c.seek-spot.ensures ∙ c.in-Ok.is))
 
-pub returns : goal.returns
-returns c =
-    let l = c.loop-i in
-    let a = c.args in
-    let s = entry-none a.identity a.n a.entries l.i (omega arith) l.invariant.3 (omega arith) in
-    record { length_is = l.invariant.2; spot_is = s; found_is = sym (found_none a.entries a.n l.invariant.2 l.invariant.1 a.identity l.i (sym s)) }
+pub bounds-among-p : goal.bounds-among-p
+unfolding spot_from
+bounds-among-p c = omega (arith, held-within 0 c.args.identity c.args.among.now c.in-Ok.p (sym c.seek-spot.ensures ∙ c.in-Ok.is))
