@@ -5,7 +5,6 @@ use native.Mathlib.Omega.{arith}
 use mathlib.Core.Bool.{Bool, true, false, not, true≢false}
 use lib.Dec.{T}
 use Rattle.std.specs.Prelude.{Ok, Err}
-use Rattle.duration.specs.declared.OutOfRange.{OutOfRange}
 use Rattle.duration.specs.declared.OutOfRange.TheVariants.{Negative, TooLong}
 use Rattle.duration.specs.Duration.{asked}
 

@@ -1,5 +1,5 @@
 -- A time that passes the questions 14 and 15 is finite, its digits stand low enough for a word, and they round as its value does. Assumes nothing.
-use mathlib.Core.Path.{◌≡◌, refl, sym, ap, ◌∙◌, subst}
+use mathlib.Core.Path.{◌≡◌, refl, sym, ap, ◌∙◌}
 use Prim.Native.Nat.{ℕ, ◌+◌, ◌*◌, ◌^◌, ◌≤◌, ◌<◌}
 use native.Mathlib.Nat.{lt_of_lt_of_le, lt_of_not-le, not-le_of_lt, le_trans, le_of_eq, mul_right_comm, mul-le-mul, mul-le-mul_right, mul-lt-mul_of_pos_right}
 use native.Mathlib.Omega.{arith}

@@ -114,3 +114,7 @@ module _ (p m D W : ℕ) where
         chain : (h i q p m D W : ℕ) → 0 < W → suc p * W ≤ (h * D + D) * W → (h + 1) * suc (D * W) ≤ (h + 1) * (i * m + m)
             → suc (h * i) * m ≤ (q * W + W) * m → h * m ≤ W * m → i * m ≤ W * m → p * W < (q + 3) * m * W
         chain h i q p m D W Wp u v w x y = omega arith
+
+-- ---- a wrapping difference and what was taken off it
+pub taken-off : (x y : ℕ) → y < 2 ^ 64 → ((x % 2 ^ 64 + (2 ^ 64 - y)) % 2 ^ 64 + y) % 2 ^ 64 ≡ x % 2 ^ 64
+taken-off x y h = omega arith

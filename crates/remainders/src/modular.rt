@@ -89,8 +89,9 @@ impl Barrett {
         ensures { result ≡ a * b % self.by.m }
     {
         let quotient = high_product(high_product(a << 10, b << 11), self.inverse);
+        let product = a.wrapping_mul(b);
         self.by
-            .less_twice(a.wrapping_mul(b).wrapping_sub(quotient.wrapping_mul(self.by.m)))
+            .less_twice(product.wrapping_sub(quotient.wrapping_mul(self.by.m)))
     }
 
     // 2^k modulo m: the six leading bits of k at once, and a squaring for each bit below.

@@ -1,5 +1,5 @@
 -- `of_parts` meets its contract: the digits are shifted up by the free places, or by the place where that is less.
-use Rattle.std.proofs.Common.{min, ◌≡◌, ℕ, ◌+◌, ◌-◌, ◌*◌, ◌%◌, ◌^◌, ◌<◌, ◌≤◌, false, sym, refl, ap, ◌∙◌, le_refl, le_of_lt, arith}
+use Rattle.std.proofs.Common.{min, ◌≡◌, ℕ, ◌+◌, ◌-◌, ◌*◌, ◌%◌, ◌^◌, ◌<◌, ◌≤◌, false, sym, refl, ap, ◌∙◌, arith}
 use lib.Ieee.{binary64, odd, of_bits}
 use Rattle.patterns.specs.declared.Unpacked.{Unpacked}
 use Rattle.patterns.proofs.Pattern.{no_nan}
@@ -54,7 +54,8 @@ returns-then-room-p c = same c.args.p c.if-p-eq0.false c.requires c.from-room.re
 pub float_from_bits-result-2 : goal.float_from_bits-result-2
 float_from_bits-result-2 c =
     let p = c.args.p in
-    no_nan _ (under _ (rw (used-up p.place (p.digits * 2 ^ p.place % 2 ^ 64)) at (below p c.if-p-eq0.false c.requires c.from-room.result p.place c.from-room.ensures (omega arith))))
+    let h = below p c.if-p-eq0.false c.requires c.from-room.result p.place c.from-room.ensures (omega arith) in
+    no_nan _ (under _ (rw (used-up p.place (p.digits * 2 ^ p.place % 2 ^ 64)) at h))
 
 pub returns : goal.returns
 returns c =

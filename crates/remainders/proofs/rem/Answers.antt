@@ -1,6 +1,6 @@
 -- `rem` meets its contract: the tests, in their order, leave two finite values of which the first is no smaller in size.
 use Rattle.std.proofs.Common.{◌≡◌, Bool, true, false, T, sym, ap, ◌∙◌, subst}
-use lib.Ieee.{Float, binary64, rem, fits, to_bits}
+use lib.Ieee.{Float, binary64, rem, fits}
 use Rattle.patterns.specs.Bits.{sign_bit}
 use Rattle.patterns.specs.declared.Unpacked.{Unpacked}
 use Rattle.patterns.proofs.Pattern.{told-nan, told-not-nan, zero_by_zero}
@@ -20,7 +20,8 @@ returns-then-is_nan-2 c = let e = told-nan c.args.y c.is_nan-2.ensures.value c.i
 
 pub returns-then-p-ge-INFINITY : goal.returns-then-p-ge-INFINITY
 returns-then-p-ge-INFINITY c =
-    zero_by_zero ∙ sym (rem-of-infinity c.args.x c.args.y (held c.args.x c.well_formed.0.1) (told-not-nan c.args.x c.is_nan.ensures.value c.if-is_nan.false) c.if-p-ge-INFINITY.true)
+    let x = c.args.x in
+    zero_by_zero ∙ sym (rem-of-infinity x c.args.y (held x c.well_formed.0.1) (told-not-nan x c.is_nan.ensures.value c.if-is_nan.false) c.if-p-ge-INFINITY.true)
 
 pub returns-then-q-eq0 : goal.returns-then-q-eq0
 returns-then-q-eq0 c =

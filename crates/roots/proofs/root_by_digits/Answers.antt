@@ -1,11 +1,11 @@
 -- `root_by_digits` meets its contract.
-use mathlib.Core.Path.{◌≡◌, ◌∙◌, sym}
-use Prim.Native.Nat.{ℕ, ◌+◌, ◌-◌, ◌*◌, ◌%◌, ◌^◌, ◌≤◌, ◌<◌}
+use mathlib.Core.Path.{◌≡◌, ◌∙◌}
+use Prim.Native.Nat.{ℕ, ◌-◌, ◌*◌, ◌%◌, ◌^◌, ◌≤◌}
 use lib.Pow.{pow_pos, shl_exact}
 use Rattle.roots.specs.Root.{whole_root}
 use Rattle.roots.proofs.WholeRoot.{root-unique, whole-root}
 use native.Mathlib.Omega.{arith}
-use Rattle.roots.proofs.Digits.{halved, digit-one-found, digit-zero-found, digits-found-are-root}
+use Rattle.roots.proofs.Digits.{digit-one-found, digit-zero-found, digits-found-are-root}
 use Rattle.roots.proofs.root_by_digits.Goals as goal
 
 -- the weight of the next digit, as the code shifts it

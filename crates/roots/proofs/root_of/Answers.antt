@@ -1,12 +1,10 @@
 -- `root_of` meets its contract: the pattern is that of the rounded root.
-use mathlib.Core.Path.{sym, ap, ◌∙◌, subst}
-use Prim.Native.Nat.{ℕ, ◌+◌, ◌-◌, ◌*◌, ◌/◌, ◌^◌, ◌≤◌, ◌<◌}
+use Prim.Native.Nat.{◌+◌, ◌-◌, ◌*◌, ◌/◌, ◌^◌, ◌≤◌, ◌<◌}
 use native.Mathlib.Omega.{arith}
-use lib.Ieee.{binary64, of_bits}
 use Rattle.patterns.specs.declared.Unpacked.{Unpacked}
 use Rattle.patterns.proofs.Pattern.{no_nan}
 use Rattle.patterns.proofs.Leading.{zeros, zeros-in}
-use Rattle.roots.proofs.Lifted.{leads, lifted-lt, pattern_lt, pattern-value}
+use Rattle.roots.proofs.Lifted.{lifted-lt, pattern_lt, pattern-value}
 use Rattle.roots.proofs.root_of.Goals as goal
 
 free : (p : Unpacked) → 0 < p.digits → (11 ≤ zeros p.digits) × (zeros p.digits ≤ 63)

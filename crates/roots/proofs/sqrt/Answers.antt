@@ -1,5 +1,5 @@
 -- `sqrt` meets its contract: the tests, in their order, leave the positive finite values.
-use mathlib.Core.Path.{sym, ap, ap₂, ◌∙◌, subst}
+use mathlib.Core.Path.{sym, ap₂, ◌∙◌, subst}
 use Prim.Native.Nat.{ℕ, ◌*◌, ◌^◌}
 use lib.Dec.{T}
 use lib.Ieee.{binary64, to_bits}

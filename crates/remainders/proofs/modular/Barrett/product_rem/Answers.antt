@@ -1,9 +1,8 @@
 -- `product_rem` meets its contract: the product less the estimated multiple of m is below 3 m, so that its low word is the whole of it.
-use Rattle.std.proofs.Common.{◌≡◌, ℕ, ◌+◌, ◌-◌, ◌*◌, ◌/◌, ◌%◌, ◌^◌, ◌<◌, ◌≤◌, sym, ap, ◌∙◌, ap₂, lt_of_le_of_lt, le_of_lt, mul-le-mul_left, arith, pow_pos, shl_lt, shr_lt}
+use Rattle.std.proofs.Common.{◌≡◌, ℕ, ◌+◌, ◌-◌, ◌*◌, ◌/◌, ◌%◌, ◌^◌, ◌<◌, ◌≤◌, sym, ap, ◌∙◌, ap₂, lt_of_le_of_lt, le_of_lt, mul-le-mul_left, arith, pow_pos, mod-lt, shl_lt, shr_lt}
 use native.Mathlib.Nat.{div-le_of_le-mul, mul-add-mod_self_right}
-use Rattle.remainders.specs.declared.modular.Modulus.{Modulus}
 use Rattle.remainders.specs.declared.modular.Barrett.{Barrett}
-use Rattle.remainders.proofs.Modulo.{leads, estimate, barrett-low, barrett-high}
+use Rattle.remainders.proofs.Modulo.{leads, estimate, barrett-low, barrett-high, taken-off}
 use Rattle.remainders.proofs.modular.Barrett.product_rem.Goals as goal
 
 abbrev quotient : ℕ → ℕ → ℕ → ℕ
@@ -29,10 +28,6 @@ difference a b m r al bl lead small word e = known (a * b) (quotient a b m * m) 
     known : (p q m r : ℕ) → q ≤ p → p < q + 3 * m → m < 2 ^ 53 → r < 2 ^ 64 → (r + q % 2 ^ 64) % 2 ^ 64 ≡ p % 2 ^ 64 → (p ≡ q + r) × (r < 3 * m)
     known p q m r h l s w e = let d : p ≡ q + r = omega arith in (d, omega arith)
 
--- a wrapping difference and what was taken off it
-back : (x y : ℕ) → ((x % 2 ^ 64 + (2 ^ 64 - y % 2 ^ 64)) % 2 ^ 64 + y % 2 ^ 64) % 2 ^ 64 ≡ x % 2 ^ 64
-back x y = omega arith
-
 -- what the quotient q leaves of the product
 abbrev rest : ℕ → ℕ → ℕ → ℕ → ℕ
 rest a b m q = (a * b % 2 ^ 64 + (2 ^ 64 - q * m % 2 ^ 64)) % 2 ^ 64
@@ -40,27 +35,24 @@ rest a b m q = (a * b % 2 ^ 64 + (2 ^ 64 - q * m % 2 ^ 64)) % 2 ^ 64
 rest_lt : (a b m q : ℕ) → rest a b m q < 2 ^ 64
 rest_lt a b m q = omega arith
 
-made_up : (a b q : ℕ) (m : Modulus) → a < 2 ^ 54 → b < 2 ^ 53 → q ≡ quotient a b m.m → (a * b ≡ q * m.m + rest a b m.m q) × (rest a b m.m q < 3 * m.m)
-made_up a b q m al bl e =
-    rw e (difference a b m.m (rest a b m.m (quotient a b m.m)) al bl m.leads m.fits (rest_lt a b m.m (quotient a b m.m)) (back (a * b) (quotient a b m.m * m.m)))
-
--- the quotient that the inverse gives, by the product's leading word h
-is-quotient : (a b h q : ℕ) (s : Barrett) → a < 2 ^ 54 → b < 2 ^ 53 → h ≡ a * 2 ^ 10 % 2 ^ 64 * (b * 2 ^ 11 % 2 ^ 64) / 2 ^ 64 → q ≡ h * s.inverse / 2 ^ 64
-    → q ≡ quotient a b s.by.m
-is-quotient a b h q s al bl e f = f ∙ ap₂ (λ (x y : ℕ). x * y / 2 ^ 64) (e ∙ leads a b al bl) s.inverted
+-- q is the quotient that the inverse gives, by the product's leading word h
+made_up : (a b h q : ℕ) (s : Barrett) → (a < 2 ^ 54) × (b < 2 ^ 53) → h ≡ a * 2 ^ 10 % 2 ^ 64 * (b * 2 ^ 11 % 2 ^ 64) / 2 ^ 64 → q ≡ h * s.inverse / 2 ^ 64
+    → (a * b ≡ q * s.by.m + rest a b s.by.m q) × (rest a b s.by.m q < 3 * s.by.m)
+made_up a b h q s l e f =
+    let m = s.by in
+    let p = quotient a b m.m in
+    let is : q ≡ p = f ∙ ap₂ (λ (x y : ℕ). x * y / 2 ^ 64) (e ∙ leads a b l.0 l.1) s.inverted in
+    rw is
+    (difference a b m.m (rest a b m.m p) l.0 l.1 m.leads m.fits (rest_lt a b m.m p) (taken-off (a * b) (p * m.m % 2 ^ 64) (mod-lt (p * m.m) (pow_pos 64))))
 
 pub less_twice-requires : goal.less_twice-requires
-less_twice-requires c =
-    let a = c.args.a in
-    let b = c.args.b in
-    (made_up a b _ c.args.self.by c.requires.0 c.requires.1 (is-quotient a b _ _ c.args.self c.requires.0 c.requires.1 c.high_product.ensures c.high_product-quotient.ensures)).1
+less_twice-requires c = (made_up c.args.a c.args.b _ _ c.args.self c.requires c.high_product.ensures c.high_product-quotient.ensures).1
 
 pub returns : goal.returns
 returns c =
     let a = c.args.a in
     let b = c.args.b in
-    let m = c.args.self.by in
+    let m = c.args.self.by.m in
     let q = c.high_product-quotient.result in
-    c.less_twice.ensures
-    ∙ sym (ap (λ (n : ℕ). n % m.m) (made_up a b q m c.requires.0 c.requires.1 (is-quotient a b _ _ c.args.self c.requires.0 c.requires.1 c.high_product.ensures c.high_product-quotient.ensures)).0
-    ∙ mul-add-mod_self_right q m.m (rest a b m.m q))
+    let e = (made_up a b _ q c.args.self c.requires c.high_product.ensures c.high_product-quotient.ensures).0 in
+    c.less_twice.ensures ∙ sym (ap (λ (n : ℕ). n % m) e ∙ mul-add-mod_self_right q m (rest a b m q))

@@ -1,5 +1,5 @@
 -- `inverse` meets its contract.
-use Rattle.std.proofs.Common.{◌≡◌, ℕ, ◌+◌, ◌*◌, ◌/◌, ◌%◌, ◌^◌, ◌<◌, ◌≤◌, sym, ap, ◌∙◌, ap₂, le_trans, le_of_eq, le_of_lt, mod-lt, div-lt_iff_lt-mul, arith, pow_mono, pow-add}
+use Rattle.std.proofs.Common.{◌≡◌, ℕ, ◌+◌, ◌*◌, ◌/◌, ◌%◌, ◌^◌, ◌<◌, ◌≤◌, sym, ap, ◌∙◌, ap₂, le_trans, le_of_eq, mod-lt, div-lt_iff_lt-mul, arith, pow_mono, pow-add}
 use native.Mathlib.Nat.{div-le_of_le-mul}
 use Rattle.remainders.proofs.Modulo.{mod-mul, long-division}
 use Rattle.remainders.proofs.modular.Modulus.inverse.Invariants.{dividend}

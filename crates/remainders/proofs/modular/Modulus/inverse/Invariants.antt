@@ -1,5 +1,5 @@
 -- `inverse` meets its contract: after i steps the quotient and the rest are those of 2 ^ (52 + 11 * i).
-use Rattle.std.proofs.Common.{◌≡◌, ℕ, ◌+◌, ◌*◌, ◌/◌, ◌%◌, ◌^◌, ◌<◌, ◌≤◌}
+use Rattle.std.proofs.Common.{◌≡◌, ℕ, ◌+◌, ◌*◌, ◌/◌, ◌%◌, ◌^◌, ◌<◌}
 use Rattle.remainders.proofs.modular.Modulus.inverse.Given as goal
 
 -- the dividend after i steps

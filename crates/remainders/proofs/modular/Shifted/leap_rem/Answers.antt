@@ -2,8 +2,7 @@
 use Rattle.std.proofs.Common.{◌≡◌, ℕ, ◌+◌, ◌-◌, ◌*◌, ◌/◌, ◌%◌, ◌^◌, ◌<◌, ◌≤◌, sym, ap, ◌∙◌, lt_of_lt_of_le, lt_of_le_of_lt, le_of_lt, mod-lt, mul-le-mul_left, div-le_self, arith, pow_pos, pow_mono, shl_lt}
 use native.Mathlib.Nat.{mul-add-mod_self_right}
 use lib.Ieee.{Float, binary64, to_bits}
-use Rattle.patterns.proofs.Pattern.{not-nan}
-use Rattle.remainders.proofs.Modulo.{mod-mul, split-shift, leads}
+use Rattle.remainders.proofs.Modulo.{mod-mul, split-shift, leads, taken-off}
 use Rattle.remainders.proofs.modular.Shifted.leap_rem.Goals as goal
 
 -- p and r make up n * 2 ^ 43
@@ -28,10 +27,6 @@ lifted a k h = sym (split-shift a (k - 43) 43) ∙ ap (λ (n : ℕ). a * 2 ^ n) 
     back : (k : ℕ) → 43 ≤ k → k - 43 + 43 ≡ k
     back k h = omega arith
 
--- a wrapping difference and what was taken off it
-back : (x y : ℕ) → y < 2 ^ 64 → ((x % 2 ^ 64 + (2 ^ 64 - y)) % 2 ^ 64 + y) % 2 ^ 64 ≡ x % 2 ^ 64
-back x y h = omega arith
-
 -- what the quotient q leaves, by the low words and by the high, of which h is the product's
 abbrev low : ℕ → ℕ → ℕ → ℕ → ℕ
 low a k m q = (a * 2 ^ k % 2 ^ 64 + (2 ^ 64 - q * m % 2 ^ 64)) % 2 ^ 64
@@ -49,8 +44,8 @@ made_up a k m q h al kl ku ml ql i rl dl =
     let hl : h < 2 ^ 64 = omega arith in
     sym e
     ∙ whole (a * 2 ^ (k - 43)) (q * m) m (low a k m q) (high a k h) (lt_of_lt_of_le (shl_lt 53 (k - 43) al) (pow_mono top)) pl ml rl dl
-    (back (a * 2 ^ k) (q * m % 2 ^ 64) (mod-lt (q * m) (pow_pos 64)) ∙ ap (λ (n : ℕ). n % 2 ^ 64) (sym e))
-    (ap (λ (v : ℕ). (high a k h + v) % 2 ^ 64) (sym i) ∙ back (a * 2 ^ (k - 43)) h hl)
+    (taken-off (a * 2 ^ k) (q * m % 2 ^ 64) (mod-lt (q * m) (pow_pos 64)) ∙ ap (λ (n : ℕ). n % 2 ^ 64) (sym e))
+    (ap (λ (v : ℕ). (high a k h + v) % 2 ^ 64) (sym i) ∙ taken-off (a * 2 ^ (k - 43)) h hl)
 
 -- the quotient by the float d
 abbrev quotient : Float → ℕ → ℕ

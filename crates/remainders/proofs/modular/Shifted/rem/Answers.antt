@@ -1,5 +1,5 @@
--- `shifted_rem` meets its contract: m is shifted up by its free places, and so is the dividend.
-use Rattle.std.proofs.Common.{◌≡◌, ℕ, ◌+◌, ◌-◌, ◌*◌, ◌/◌, ◌%◌, ◌^◌, ◌<◌, ◌≤◌, ap, ap₂, ◌∙◌, le_refl, arith}
+-- `rem` meets its contract: m is shifted up by its free places, and so is the dividend.
+use Rattle.std.proofs.Common.{◌≡◌, ℕ, ◌-◌, ◌*◌, ◌/◌, ◌%◌, ◌^◌, ◌<◌, ◌≤◌, ap, ap₂, ◌∙◌, le_refl, arith}
 use Rattle.remainders.proofs.Modulo.{shifted-both}
 use Rattle.patterns.proofs.Leading.{zeros, zeros-in, shift-exact, shift-lt, shift-lead}
 use Rattle.remainders.proofs.modular.Shifted.rem.Goals as goal
