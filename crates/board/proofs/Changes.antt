@@ -1,13 +1,10 @@
 -- A search of the entries, and the change of the array that each call makes: it stands for the plain board's targets after the call.
 use Rattle.std.specs.Prelude.{Option, Some, None, Result, Ok, Err, is_ok}
-use Prim.Native.Nat.{ℕ, suc, ◌+◌, ◌≤◌, ◌<◌}
-use native.Mathlib.Numerals.{add-one}
+use Prim.Native.Nat.{ℕ}
 use mathlib.Core.Bool.{true}
-use mathlib.Core.List.{List, [], ◌∷◌, map}
+use mathlib.Core.List.{List, map}
 use mathlib.Core.Path.{◌≡◌, refl, sym, ap, ◌∙◌}
-use lib.ListN.{length, take, drop, get_or, drop_of_length-le}
-use lib.Seq.{drop-cons, length-take-le, get_or-take}
-use borrow.Author.Tests.{lt-ltb, le-ltb, eq-eqb, ne_eqb}
+use lib.ListN.{length, take}
 use Rattle.plain.specs.declared.targets.Held.{Held}
 use Rattle.plain.specs.declared.targets.Target.{Target}
 use Rattle.plain.specs.declared.targets.Targets.{Targets}
@@ -20,14 +17,14 @@ use Rattle.plain.specs.declared.call.Fix.{Fix}
 use Rattle.plain.specs.declared.call.Call.{Call}
 use Rattle.plain.specs.declared.call.Call.TheVariants.{Report, Withdraw, OwnShip, Track, Solve}
 use Rattle.plain.specs.Targets.{most_targets, find, place, bared, bare_target, at_most, listed}
-use Rattle.targets.specs.Slots.{spot_in, spot_from}
+use Rattle.targets.specs.Slots.{spot_from}
 use Rattle.plain.specs.Call.{Answer, vehicle, named}
 use Rattle.plain.specs.Questions.{ask, identity_asked}
 use Rattle.plain.specs.Board.{Plain, answer, after, accepted, targets_after, put, swept, leaves, lined, with_line, own_after, track_after, raised}
 use Rattle.plain.specs.Code.{plain, cut}
 use Rattle.plain.specs.History.{accepts}
 use Rattle.board.specs.Change.{name_of, Seeks, answer_by, entries_after, count_after, changed, Within, placing, RightChange}
-use Rattle.targets.proofs.Arrays.{absent, held_below}
+use Rattle.targets.proofs.Arrays.{held_below}
 use Rattle.targets.proofs.Slots.{stored_is, inserted-is, removed-is, removed-not, take-bared, counted_is, removed-fits, bared-fits, absent-fits}
 use Rattle.questions.proofs.Chains.{ask-fix, ask-ends}
 use Rattle.plain.proofs.Listed.{at-most-le, at-most-same}

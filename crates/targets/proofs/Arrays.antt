@@ -6,13 +6,13 @@ use native.Mathlib.Numerals.{add-one}
 use native.Mathlib.Omega.{arith}
 use mathlib.Core.Path.{◌≡◌, refl, sym, ap, ◌∙◌}
 use mathlib.Core.Bool.{Bool, true, false, cond}
-use mathlib.Core.List.{List, [], ◌∷◌, ◌++◌, map, append-nil, append_assoc}
+use mathlib.Core.List.{List, [], ◌∷◌, ◌++◌, map, append-nil}
 use lib.Dec.{ltb, leb, eqb}
 use borrow.Author.Tests.{leb-true, leb-false, lt-ltb, le-ltb, eq-eqb, ne_eqb}
-use lib.ListN.{length-set, length, take, drop, get_or, set, length-take, length-drop, length-append, take-append-drop, drop_of_length-le}
+use lib.ListN.{length, take, drop, get_or, set, length-take, length-drop, length-append, drop_of_length-le}
 use Rattle.std.specs.List.{copy_within, position_from}
 use Rattle.std.proofs.lemmas.Iterator.Adapters.{position_from-zero}
-use lib.Seq.{take-append-add, take-suc-set, drop-set-lt, get_or-drop, take-suc, drop-cons, set_at, append_snoc, length-take-le, get_or-take, take_all, get_or-append-add, take_at}
+use lib.Seq.{take-append-add, get_or-drop, take-suc, drop-cons, set_at, append_snoc, length-take-le, take_all, get_or-append-add, take_at}
 use lib.Ieee.{nan}
 use Rattle.plain.specs.declared.targets.Target.{Target}
 use Rattle.targets.specs.Slots.{spot_in, spot_from}
@@ -43,10 +43,6 @@ module _ {A : Type 0} where
       let k : length (take i s) ≡ i = length-take-le i s h in
       let z : i + (i - i) ≡ i = omega arith in
       get_d_past (take i s) (drop i l) i d (omega arith) ∙ rw (k, get_or-drop, z)
-
-  -- the whole list is laid
-  pub laid-all : (s l out : List A) (i n : ℕ) → i ≡ n → length l ≡ n → out ≡ take i s ++ drop i l → out ≡ take n s
-  laid-all s l out i n e h g = g ∙ rw (drop_of_length-le l {i = i} (omega arith), append-nil, e)
 
   -- past its end a list is taken whole
   pub whole : (ts rest : List A) (n p : ℕ) → length ts ≡ n → n ≤ p → ts ≡ take n (take p ts ++ rest)

@@ -58,9 +58,6 @@ module _ (ts : List Target) (n : ℕ) (full : length ts ≡ most_targets) (small
   pub found_at : (p : ℕ) → spot_from 0 x (take n ts) ≡ Ok p → find x (take n ts) ≡ Some (get_or ts p absent).held
   found_at p e = (stands_at x (take n ts) p e).looked ∙ ap (λ (t : Target). Some t.held) (get_or-take n ts p absent (held_below x n ts p e))
 
-  pub found_none : (p : ℕ) → spot_from 0 x (take n ts) ≡ Err p → find x (take n ts) ≡ None
-  found_none p e = (belongs-at x (take n ts) p e).looked
-
   pub stored_at : (p : ℕ) (h : Held) → spot_from 0 x (take n ts) ≡ Ok p
       → take (at_most n) (set ts p (record { identity = x; held = h })) ≡ take most_targets (place x (Some h) (take n ts))
   stored_at p h e =

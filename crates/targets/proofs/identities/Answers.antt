@@ -1,5 +1,5 @@
 -- `identities` meets its contract.
-use Rattle.std.proofs.Common.{rules, ◌≡◌, ◌≤◌, ◌∙◌, arith, length, map, take, replicate, List, ℕ}
+use Rattle.std.proofs.Common.{rules, ◌≡◌, ◌≤◌, ◌∙◌, arith, length, map, take, replicate, ℕ}
 use lib.ListN.{get_or-map, length-replicate}
 use lib.Seq.{length-take-le, take_all}
 use Rattle.plain.specs.Targets.{most_targets}

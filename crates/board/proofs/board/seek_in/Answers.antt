@@ -1,6 +1,6 @@
 -- `seek_in` meets its contract.
 use Rattle.std.proofs.Common.{arith, sym, ◌∙◌}
-use Rattle.targets.proofs.Arrays.{absent, held-within}
+use Rattle.targets.proofs.Arrays.{held-within}
 use Rattle.targets.proofs.Spots.{stands_at, belongs-at}
 use Rattle.targets.specs.Slots.{spot_from}
 use Rattle.board.proofs.board.seek_in.Goals as goal

@@ -7,7 +7,6 @@ use lib.Ieee.{Float, nan}
 use lib.ListN.{get_or-map, length, get_or, set, length-set}
 use lib.Seq.{get_or-set_same, get_or-set_other}
 use borrow.Author.Count.{below_more}
-use borrow.Author.Rules.{rules}
 use Rattle.vectors.specs.declared.vec3.Vec3.{Vec3}
 use Rattle.plain.specs.Targets.{most_targets}
 use Rattle.plain.specs.declared.targets.Target.{Target}
