@@ -87,21 +87,23 @@ found xs false e =
 
 pub newline-at : (s : List ℕ) {at i : ℕ} {rest : List ℕ} → Passes s at i → rest ≡ drop i s
     → (unwrap_or (position (λ b. b == newline) rest) (length s - i) ≤ length s - i)
-        × EndsAt s at (i + unwrap_or (position (λ b. b == newline) rest) (length s - i))
+    × EndsAt s at (i + unwrap_or (position (λ b. b == newline) rest) (length s - i))
 newline-at s {at} {i} {rest} p e =
     let n : ℕ = position_or_len (λ (b : ℕ). b == newline) rest in
     let l : length rest ≡ length s - i = ap (λ (z : List ℕ). length z) e ∙ length-drop i s in
     let within : n ≤ length rest = prefix_len-le-length (λ (x : ℕ). not (x == newline)) rest in
     let byte : (k : ℕ) → get_or rest k 0 ≡ get_or s (i + k) 0 = λ k. ap (λ (z : List ℕ). get_or z k 0) e ∙ get_or-drop i s k 0 in
     let none : NoNewline s i (i + n) = λ k u w h.
-        let j : i + (k - i) ≡ k = omega arith in
-        let f = fails_before_first (λ (b : ℕ). b == newline) rest (k - i) 0 (omega arith) in
-        eqb-false (get_or rest (k - i) 0) newline f (byte (k - i) ∙ ap (λ (x : ℕ). get_or s x 0) j ∙ h) in
-    rw (← l, found rest (nat_lt n (length rest)) refl)
-    (within, record {
-      passes = further s (i + n) (omega arith) (omega (arith, p.within)) none p;
-      ends = λ w. sym (byte n) ∙ eqb-true (get_or rest n 0) newline (passes_at_first (λ (b : ℕ). b == newline) rest 0 (omega arith));
-    })
+    let j : i + (k - i) ≡ k = omega arith in
+    let f = fails_before_first (λ (b : ℕ). b == newline) rest (k - i) 0 (omega arith) in
+    eqb-false (get_or rest (k - i) 0) newline f (byte (k - i) ∙ ap (λ (x : ℕ). get_or s x 0) j ∙ h) in
+    rw (← l, found rest (nat_lt n (length rest)) refl) (
+      within,
+      record {
+        passes = further s (i + n) (omega arith) (omega (arith, p.within)) none p;
+        ends = λ w. sym (byte n) ∙ eqb-true (get_or rest n 0) newline (passes_at_first (λ (b : ℕ). b == newline) rest 0 (omega arith));
+      },
+    )
 
 -- ---- what is kept
 

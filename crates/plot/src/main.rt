@@ -23,12 +23,7 @@ const PAGE: usize = 65_536;
 const LAST_PAGE: usize = 4_096;
 
 // Answers a piece of the input, page by page, writes each page at once, and hands back the stream after it.
-fn pour<W: Write>(
-    out: &mut W,
-    s: Stream,
-    xs: &[u8],
-    page: &mut [u8],
-) -> Result<Stream, Failure>
+fn pour<W: Write>(out: &mut W, s: Stream, xs: &[u8], page: &mut [u8]) -> Result<Stream, Failure>
     requires { room ≤ length page.old }
     ensures poured { Poured s xs.now result }
     ensures written { OnOk result (Appends (W.contents out.old) (W.contents out.new) (fed_text (view s) xs.now)) }

@@ -37,7 +37,7 @@ Quickly o ids f (Some (Puts k p t)) =
 Quickly o ids f (Some (Sweeps k q)) =
     (es : List Target) → Standing o ids es
     → Standing (Some q) ids (map bare_target es)
-        × Stepping (session_of o es) f (record { session = session_of (Some q) (map bare_target es); reply = reply.Done k })
+    × Stepping (session_of o es) f (record { session = session_of (Some q) (map bare_target es); reply = reply.Done k })
 Quickly o ids f None = Unit {0}
 
 -- ---- what is told of a frame

@@ -62,10 +62,10 @@ loop-rest-preserved g c =
         t.0 ++ page,
         Appends-trans _ _ _ _ _ t.1 wrote,
         append_assoc t.0 page (fed_text n after)
-        ∙ ap (λ (z : List ℕ). t.0 ++ z)
-        (ap (λ (z : List ℕ). z ++ fed_text n after) (taken f.wrote) ∙ ap (λ (z : List ℕ). fed_text m (take u xs) ++ fed_text n z) all
-        ∙ rest-text m n xs u f.stream_is)
-        ∙ t.2,
+            ∙ ap (λ (z : List ℕ). t.0 ++ z)
+            (ap (λ (z : List ℕ). z ++ fed_text n after) (taken f.wrote) ∙ ap (λ (z : List ℕ). fed_text m (take u xs) ++ fed_text n z) all
+            ∙ rest-text m n xs u f.stream_is)
+            ∙ t.2,
       );
     }
 
