@@ -9,7 +9,7 @@ use lib.Arith.{mod-mul}
 use lib.Dec.{ltb, lit<}
 use lib.ListN.{length, get_or, length-append}
 use lib.Seq.{append_snoc, get_or_at}
-use Rattle.unhex.specs.Digits.{digit_of, hex_at, number_by}
+use Rattle.unhex.specs.Digits.{digit_of, hex_at}
 use Rattle.hex_digits.specs.Hex.{byte_of, digits}
 use Rattle.unhex.proofs.Read.{by-test, number-below}
 use Rattle.hex_digits.proofs.Write.{length_digits}
@@ -26,7 +26,7 @@ digit-back d h =
 
 -- wherever the digits stand in a list
 pub digits-back : (ws zs : List ℕ) (n v : ℕ) → hex_at (ws ++ digits n v ++ zs) (length ws) n ≡ v % 16 ^ n
-unfolding number_by digits
+unfolding hex_at digits
 digits-back ws zs zero v = omega arith
 digits-back ws zs (suc n) v =
     let b : ℕ = byte_of (v % 16) in

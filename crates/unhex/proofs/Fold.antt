@@ -9,7 +9,8 @@ use lib.ListN.{get_or}
 use lib.Pow.{pow_pos, pow_mono, pow-add, split, high, low, shr-shr, field, mod-mod-pow, ones_lt}
 use Rattle.std.specs.Int.{from_le_bytes, sum_through, byte_worth}
 use Rattle.std.proofs.Common.{w64}
-use Rattle.unhex.specs.Digits.{low_of, lows_at, lows_of, number_by}
+use Rattle.unhex.proofs.Read.{lows-reads}
+use Rattle.unhex.specs.Digits.{low_of, lows_at, lows_of}
 
 -- a mask that keeps the k low bits of each of m fields of j + k bits
 unfoldable pub mask : ℕ → ℕ → ℕ → ℕ
@@ -116,8 +117,8 @@ lows-more (suc n) v b h k =
 
 -- a word made of bytes, the first lowest
 word-lows : (s : List ℕ) → ((i : ℕ) → get_or s i 0 < 256) → (n : ℕ)
-    → let v = sum_through (λ i. byte_worth i (get_or s i 0)) n in (v < 256 ^ suc n) × (lows_of (suc n) v ≡ number_by low_of s 0 (suc n))
-unfolding lows_of number_by
+    → let v = sum_through (λ i. byte_worth i (get_or s i 0)) n in (v < 256 ^ suc n) × (lows_of (suc n) v ≡ lows_at s 0 (suc n))
+unfolding lows_of lows_at
 word-lows s h zero =
     let m : get_or s 0 0 % 256 ≡ get_or s 0 0 = omega (arith, h 0) in
     (h 0, rw m (omega arith))
@@ -127,7 +128,7 @@ word-lows s h (suc n) =
     let b : ℕ = get_or s (suc n) 0 in
     let m : suc b * 256 ^ suc n ≤ 256 * 256 ^ suc n = mul-le-mul_right (256 ^ suc n) (h (suc n)) in (
       omega (arith, pow-suc 256 (suc n), i.0),
-      lows-more (suc n) v b i.0 (h (suc n)) ∙ rw (zero-add (suc n), i.1) refl,
+      lows-more (suc n) v b i.0 (h (suc n)) ∙ rw (lows-reads.more s 0 (suc n), zero-add (suc n), i.1) refl,
     )
 
 pub le-lows : (s : List ℕ) → ((i : ℕ) → get_or s i 0 < 256) → lows_of 8 (from_le_bytes w64 s) ≡ lows_at s 0 8

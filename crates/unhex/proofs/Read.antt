@@ -13,7 +13,7 @@ use lib.Seq.{drop-drop, get_or-take, get_or-drop, length-take-le, take-add, take
 use Rattle.std.proofs.lemmas.List.Folds.{list_all-append, list_all_at}
 use Rattle.std.specs.List.{list_all}
 use Rattle.std.specs.Simd.{first_chunks}
-use Rattle.unhex.specs.Digits.{is_digit, all_digits, digit_of, hex_at, low_of, lows_at, lows_in, number_by}
+use Rattle.unhex.specs.Digits.{is_digit, all_digits, digit_of, hex_at, low_of, lows_at, lows_in, Reads}
 
 -- a test that chooses between two is one of them
 module _ {G : Type 0} where
@@ -44,42 +44,37 @@ digit-below b =
     cond_below (is_digit b) (λ e.
     cond_below (leb b 57) (λ p. omega (arith, leb-true b 57 p)) (λ p. omega (arith, (digit-from b e).2))) (λ e. omega arith)
 
--- f gives each byte a digit's number
-pub record Reads (f : ℕ → ℕ) : Type 0 where
-  pub small : (b : ℕ) → f b < 16
+pub hex-reads : Reads digit_of hex_at
+unfolding hex_at
+hex-reads = record { small = digit-below; none = λ s at. refl; more = λ s at n. refl }
 
-pub hex-reads : Reads digit_of
-hex-reads = record { small = digit-below }
+pub lows-reads : Reads low_of lows_at
+unfolding lows_at
+lows-reads = record { small = λ b. omega arith; none = λ s at. refl; more = λ s at n. refl }
 
-pub lows-reads : Reads low_of
-lows-reads = record { small = λ b. omega arith }
+module _ {f : ℕ → ℕ} {g : List ℕ → ℕ → ℕ → ℕ} (r : Reads f g) (s : List ℕ) (at : ℕ) where
+  pub below : (n : ℕ) → g s at n < 16 ^ n
+  below zero = omega (arith, r.none s at)
+  below (suc n) = omega (arith, pow-suc 16 n, below n, r.more s at n, r.small (get_or s (at + n) 0))
 
-module _ {f : ℕ → ℕ} (r : Reads f) (s : List ℕ) (at : ℕ) where
-  pub below : (n : ℕ) → number_by f s at n < 16 ^ n
-  unfolding number_by
-  below zero = omega arith
-  below (suc n) = omega (arith, pow-suc 16 n, below n, r.small (get_or s (at + n) 0))
+  pub next : (n : ℕ) {v b d : ℕ} → v ≡ g s at n → b ≡ get_or s (at + n) 0 → d ≡ f b → v * 16 + d ≡ g s at (n + 1)
+  next n h k l = rw (add-one, r.more s at n, l, k, h)
 
   -- the digits of a part of s are those of s
-  pub dropped : (k : ℕ) → number_by f (drop at s) 0 k ≡ number_by f s at k
-  unfolding number_by
-  dropped zero = refl
-  dropped (suc k) = rw (dropped k, zero-add k, get_or-drop at s k 0) refl
+  pub dropped : (k : ℕ) → g (drop at s) 0 k ≡ g s at k
+  dropped zero = r.none (drop at s) 0 ∙ sym (r.none s at)
+  dropped (suc k) = rw (r.more (drop at s) 0 k, r.more s at k, dropped k, zero-add k, get_or-drop at s k 0)
 
-  pub part : (n k : ℕ) → k ≤ n → number_by f (take n (drop at s)) 0 k ≡ number_by f s at k
-  unfolding number_by
-  part n zero h = refl
-  part n (suc k) h = rw (part n k (omega arith), zero-add k, get_or-take n (drop at s) k 0 (omega arith), get_or-drop at s k 0) refl
+  pub part : (n k : ℕ) → k ≤ n → g (take n (drop at s)) 0 k ≡ g s at k
+  part n zero h = r.none (take n (drop at s)) 0 ∙ sym (r.none s at)
+  part n (suc k) h =
+      rw (r.more (take n (drop at s)) 0 k, r.more s at k, part n k (omega arith), zero-add k, get_or-take n (drop at s) k 0 (omega arith), get_or-drop at s k 0)
 
   -- the digits of both parts of a number, the high part first
-  pub halves : (m n : ℕ) → number_by f s at (m + n) ≡ number_by f s at m * 16 ^ n + number_by f s (at + m) n
-  unfolding number_by
-  halves m zero = rw (add-zero m) (omega arith)
-  halves m (suc n) = rw (add-suc m n, halves m n, add_assoc at m n, pow-suc 16 n) (omega arith)
-
-pub number-next : (f : ℕ → ℕ) (s : List ℕ) (i : ℕ) {v b d : ℕ} → v ≡ number_by f s 0 i → b ≡ get_or s i 0 → d ≡ f b → v * 16 + d ≡ number_by f s 0 (i + 1)
-unfolding number_by
-number-next f s i h k l = rw (add-one i, zero-add i, ← k, ← l, ← h) refl
+  pub halves : (m n : ℕ) → g s at (m + n) ≡ g s at m * 16 ^ n + g s (at + m) n
+  halves m zero = rw (add-zero m, r.none s (at + m)) (omega arith)
+  halves m (suc n) =
+      rw (add-suc m n, r.more s at (m + n), r.more s (at + m) n, halves m n, add_assoc at m n, pow-suc 16 n) (omega arith)
 
 -- one digit more fits 64 bits while there are fewer than 16
 pub room : (i v : ℕ) → i < 16 → v < 16 ^ i → v * 16 + 16 ≤ 2 ^ 64
@@ -162,9 +157,8 @@ low-each s i e =
 
 -- who knows that all bytes are digits may read the low bits alone
 pub lows-digits : (s : List ℕ) (at n : ℕ) → all_digits s ≡ true → lows_at s at n ≡ hex_at s at n
-unfolding number_by
-lows-digits s at zero e = refl
-lows-digits s at (suc n) e = rw (lows-digits s at n e, low-each s (at + n) e)
+lows-digits s at zero e = lows-reads.none s at ∙ sym (hex-reads.none s at)
+lows-digits s at (suc n) e = rw (lows-reads.more s at n, hex-reads.more s at n, lows-digits s at n e, low-each s (at + n) e)
 
 -- where s has all n bytes they are read, and where it ends before none is
 pub lows-there : (s : List ℕ) (at n : ℕ) → at + n ≤ length s → lows_at s at n ≡ lows_in s at n
@@ -172,10 +166,10 @@ lows-there s at n h = simp (le-leb (at + n) (length s) h)
 
 pub two-lows : (s : List ℕ) (at : ℕ) → 2 ≤ length (drop at s)
     → low_of (get_or (drop at s) 0 0) * 16 + low_of (get_or (drop at s) 1 0) ≡ lows_in s at 2
-unfolding number_by
+unfolding lows_at
 two-lows s at h =
     let l : length (drop at s) ≡ length s - at = length-drop at s in
-    let m : low_of (get_or (drop at s) 0 0) * 16 + low_of (get_or (drop at s) 1 0) ≡ number_by low_of (drop at s) 0 2 = omega arith in
+    let m : low_of (get_or (drop at s) 0 0) * 16 + low_of (get_or (drop at s) 1 0) ≡ lows_at (drop at s) 0 2 = omega arith in
     m ∙ dropped lows-reads s at 2 ∙ lows-there s at 2 (omega arith)
 
 two-blocks : (k : ℕ) (t : List ℕ) → 2 ≤ k → (get_or (first_chunks 8 k t) 0 [] ≡ take 8 t) × (get_or (first_chunks 8 k t) 1 [] ≡ take 8 (drop 8 t))

@@ -1,5 +1,5 @@
 -- Lowercase hexadecimal digits in a list of bytes: the number that they stand for, high digit first. Definitions only.
-use Rattle.std.specs.Prelude.{ℕ, zero, suc, ◌+◌, ◌-◌, ◌*◌, ◌/◌, ◌%◌, ◌^◌, Bool, false, cond, List, leb, length, get_or}
+use Rattle.std.specs.Prelude.{ℕ, zero, suc, ◌≡◌, ◌<◌, ◌+◌, ◌-◌, ◌*◌, ◌/◌, ◌%◌, ◌^◌, Bool, false, cond, List, leb, length, get_or}
 use Rattle.std.specs.List.{list_all}
 
 -- is the byte one of 0 to 9 and a to f?
@@ -14,22 +14,25 @@ all_digits s = list_all is_digit s
 abbrev pub digit_of : ℕ → ℕ
 digit_of b = cond (is_digit b) (cond (leb b 57) (b - 48) (b - 97 + 10)) 0
 
--- the number of n bytes of s from `at` on, each by its f, high digit first; past the end of s stands 0
-unfoldable pub number_by : (ℕ → ℕ) → List ℕ → ℕ → ℕ → ℕ
-number_by f s at zero = 0
-number_by f s at (suc n) = number_by f s at n * 16 + f (get_or s (at + n) 0)
-
 -- the number of the n digits of s from `at` on, high digit first; past the end of s stands no digit
-abbrev pub hex_at : List ℕ → ℕ → ℕ → ℕ
-hex_at = number_by digit_of
+unfoldable pub hex_at : List ℕ → ℕ → ℕ → ℕ
+hex_at s at zero = 0
+hex_at s at (suc n) = hex_at s at n * 16 + digit_of (get_or s (at + n) 0)
 
 -- the low four bits of a byte, of nine more where its bit of 64 is set: of a digit its number
 abbrev pub low_of : ℕ → ℕ
 low_of b = (b % 16 + b / 64 % 2 * 9) % 16
 
 -- the number of n bytes of s from `at` on by their low bits, high digit first; past the end of s stands 0
-abbrev pub lows_at : List ℕ → ℕ → ℕ → ℕ
-lows_at = number_by low_of
+unfoldable pub lows_at : List ℕ → ℕ → ℕ → ℕ
+lows_at s at zero = 0
+lows_at s at (suc n) = lows_at s at n * 16 + low_of (get_or s (at + n) 0)
+
+-- g reads n bytes of s from `at` on, high digit first, each byte by its f
+pub record Reads (f : ℕ → ℕ) (g : List ℕ → ℕ → ℕ → ℕ) : Type 0 where
+  pub small : (b : ℕ) → f b < 16
+  pub none : (s : List ℕ) (at : ℕ) → g s at 0 ≡ 0
+  pub more : (s : List ℕ) (at n : ℕ) → g s at (suc n) ≡ g s at n * 16 + f (get_or s (at + n) 0)
 
 -- the number of n bytes by their low bits where s has all n of them, and 0 where it ends before
 abbrev pub lows_in : List ℕ → ℕ → ℕ → ℕ

@@ -1,9 +1,9 @@
 // Lowercase hexadecimal digits read out of lent bytes.
 #![tactic(auto)]
 
-ghost use Rattle.std.specs.Prelude.{ℕ, ◌≡◌, ◌^◌, ◌<◌, ◌≤◌, min, drop};
+ghost use Rattle.std.specs.Prelude.{ℕ, List, ◌≡◌, ◌^◌, ◌<◌, ◌≤◌, min, drop};
 ghost use Rattle.std.specs.List.{list_all};
-ghost use Rattle.unhex.specs.Digits.{is_digit, all_digits, digit_of, hex_at, low_of, lows_at, lows_in, lows_of, number_by};
+ghost use Rattle.unhex.specs.Digits.{is_digit, all_digits, digit_of, hex_at, low_of, lows_at, lows_in, lows_of, Reads};
 
 // Is b one of 0 to 9 and a to f?
 pub fn is_digit(b: u8) -> bool
@@ -68,7 +68,7 @@ fn number_by<F: Fn(u8) -> u64>(s: &[u8], n: usize, digit: F) -> u64
     requires few { n ≤ 16 }
     requires callable { F.IsAlwaysCallable digit }
     requires small { (b d : ℕ) → F.post digit b d → d < 16 }
-    ensures { (f : ℕ → ℕ) → ((b d : ℕ) → F.post digit b d → d ≡ f b) → result ≡ number_by f s.now 0 n }
+    ensures { (f : ℕ → ℕ) (g : List ℕ → ℕ → ℕ → ℕ) → Reads f g → ((b d : ℕ) → F.post digit b d → d ≡ f b) → result ≡ g s.now 0 n }
 {
     let mut v = 0;
     for i in 0..n {

@@ -1,13 +1,11 @@
 -- `number_by` meets its contract.
-use Rattle.std.proofs.Common.{◌≡◌, arith, rules, refl, get_or, add-one, pow-suc}
+use Rattle.std.proofs.Common.{ℕ, ◌≡◌, arith, rules, sym, ap, ◌∙◌, get_or, zero-add, add-one, pow-suc}
 use Rattle.std.proofs.lemmas.Option.{gets}
-use Rattle.unhex.specs.Digits.{number_by}
-use Rattle.unhex.proofs.Read.{room, number-next}
+use Rattle.unhex.proofs.Read.{room, next}
 use Rattle.unhex.proofs.number_by.Goals as goal
 
 pub loop-i-init : goal.loop-i-init
-unfolding number_by
-loop-i-init g c = record { small = omega arith; number = λ f h. refl }
+loop-i-init g c = record { small = omega arith; number = λ f m r h. sym (r.none c.args.s.now 0) }
 
 pub overflow_mul-v : goal.overflow_mul-v
 overflow_mul-v g c =
@@ -25,5 +23,5 @@ loop-i-preserved g c =
     let b : c.unwrap_or.result ≡ get_or c.args.s.now l.i 0 = search (rules, gets) in
     record {
       small = grind (arith, add-one l.i, pow-suc 16 l.i, l.invariant.small, c.requires.small _ _ c.digit.ensures);
-      number = λ f h. number-next f c.args.s.now l.i (l.invariant.number f h) b (h _ _ c.digit.ensures);
+      number = λ f m r h. next r c.args.s.now 0 l.i (l.invariant.number f m r h) (b ∙ ap (λ (k : ℕ). get_or c.args.s.now k 0) (sym (zero-add l.i))) (h _ _ c.digit.ensures);
     }

@@ -6,4 +6,5 @@ use Rattle.unhex.proofs.sixteen_at.Goals as goal
 pub returns-clause-value : goal.returns-clause-value
 returns-clause-value c =
     let e = rw c.tail.ensures at c.as_chunks.ensures in
-    rw (c.eight.ensures.value, c.eight-2.ensures.value) (sixteen-lows c.args.s.now c.args.at e.front (omega (arith, e.front_len)))
+    let s = sixteen-lows c.args.s.now c.args.at e.front (omega (arith, e.front_len)) in
+    omega arith

@@ -9,4 +9,5 @@ returns-clause-value c =
     let a = c.args in
     let t = c.in-Some-len2-up in
     let e : t.field-0.now ≡ drop a.at a.s.now = grind (arith, common_steps) in
-    rw (c.low.ensures, c.low-2.ensures, e) (two-lows a.s.now a.at (rw e at t.len_at_least))
+    let l = two-lows a.s.now a.at (rw e at t.len_at_least) in
+    rw (c.low.ensures, c.low-2.ensures, e) l
