@@ -185,11 +185,8 @@ pub fn own_after(call: Call, own: Option<Vehicle>) -> Option<Vehicle>
     ensures { result ≡ spec.own_after call own }
 {
     match call {
-        Call::Report(_, _) => own,
-        Call::Withdraw(_) => own,
         Call::OwnShip(fix) => Some(vehicle(fix)),
-        Call::Track(_, _) => own,
-        Call::Solve(_) => own,
+        _ => own,
     }
 }
 
@@ -198,11 +195,8 @@ pub fn track_after(call: Call, track: Option<Ends>) -> Option<Ends>
     ensures { result ≡ spec.track_after call track }
 {
     match call {
-        Call::Report(_, _) => track,
-        Call::Withdraw(_) => track,
-        Call::OwnShip(_) => track,
         Call::Track(start, end) => Some(ends(start, end)),
-        Call::Solve(_) => track,
+        _ => track,
     }
 }
 
@@ -211,9 +205,8 @@ fn total_after(answer: Answer, total: u32) -> u32
     ensures { result ≡ spec.raised answer total }
 {
     match answer {
-        Ok(None) => total,
         Ok(Some(line)) => raise(total, line),
-        Err(_) => total,
+        _ => total,
     }
 }
 
@@ -286,14 +279,10 @@ fn with_line(answer: Answer, held: Held) -> Held
     ensures { result ≡ spec.with_line answer held }
 {
     match answer {
-        Ok(None) => held,
-        Ok(Some(line)) => {
-            let report = held.report;
-            Held {
-                report,
-                line: Some(line),
-            }
-        }
-        Err(_) => held,
+        Ok(Some(line)) => Held {
+            line: Some(line),
+            ..held
+        },
+        _ => held,
     }
 }

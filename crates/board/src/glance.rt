@@ -14,6 +14,7 @@ use questions::{ends_asked, fix_asked, identity_asked};
 use targets::{least, seek};
 
 // All of a board but the entries of its targets.
+// A board has these parts itself, for they are the plain board's: within a setting each would be named one step deeper, in every definition.
 #[derive(Clone, Copy)]
 pub struct Setting {
     pub radius: f64,

@@ -20,6 +20,7 @@ pub struct Target {
 }
 
 // The targets that stand: the first `count` entries, all of them where it says more.
+// An array with a count: there is no heap, and a board is a value that is copied.
 #[derive(Clone, Copy)]
 pub struct Targets {
     pub entries: [Target; MOST_TARGETS],

@@ -42,7 +42,7 @@ pub fn mean(board: Board) -> Result<NVector, NoMean>
     mean_of_columns(&cs, least(targets.count))
 }
 
-// The parts of the positions of all entries, all x, then all y, then all z: numbers can be lent, an array of targets is copied at each call.
+// The parts of the positions of all entries, all x, then all y, then all z.
 fn columns_of(entries: [Target; MOST_TARGETS]) -> [f64; MOST_PARTS]
     ensures { spec.Columns entries most_targets result × (length entries ≡ most_targets) × (length result ≡ 3 * most_targets) }
 {
