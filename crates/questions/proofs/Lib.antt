@@ -1,3 +1,2 @@
 pub mod Wrapping
-pub mod Finiteness
 pub mod Chains

@@ -30,7 +30,7 @@ fn unless(so: bool, refusal: Refusal) -> Result<(), Refusal>
 fn finite(x: f64) -> bool
     ensures { result ≡ spec.finite x }
 {
-    magnitude(x) < 1.0 / 0.0
+    x.is_finite()
 }
 
 // Whether all three numbers are finite.

@@ -41,10 +41,7 @@ pub fn solve_line(radius: f64, scene: Scene) -> Line
 pub fn raise(total: u32, line: Line) -> u32
     ensures { result ≡ (total + spec.counts line) % spec.totals }
 {
-    let closest = line.closest;
-    let meeting = line.meeting;
-    let longest = line.longest;
-    let a = std::num::wrapping_add_u32(total, closest.count());
-    let b = std::num::wrapping_add_u32(a, meeting.count());
-    std::num::wrapping_add_u32(b, longest.count())
+    let a = total.wrapping_add(line.closest.count());
+    let b = a.wrapping_add(line.meeting.count());
+    b.wrapping_add(line.longest.count())
 }

@@ -5,12 +5,4 @@ use Rattle.questions.proofs.line.raise.Goals as goal
 
 pub returns : goal.returns
 unfolding counts
-returns c =
-    rw (
-      c.wrapping_add_u32.ensures.value,
-      c.count-3.ensures,
-      c.wrapping_add_u32-b.ensures.value,
-      c.count-2.ensures,
-      c.wrapping_add_u32-a.ensures.value,
-      c.count.ensures,
-    ) (thrice _ _ _ _)
+returns c = rw (c.count-3.ensures, c.count-2.ensures, c.count.ensures) (thrice _ _ _ _)
