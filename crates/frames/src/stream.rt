@@ -62,9 +62,9 @@ fn put_reply_line(out: &mut [u8], at: usize, reply: Reply) -> usize
     n + 1
 }
 
-// A session in its parts.
-fn parts_of(session: Session) -> InParts
-    ensures { turn.PartsOf session result }
+// A session in its parts. It is lent, for a board is long.
+fn parts_of(session: &Session) -> InParts
+    ensures { turn.PartsOf session.now result }
 {
     match session.board {
         Some(board) => {
@@ -148,7 +148,7 @@ fn lines(s: Stream, xs: &[u8], page: &mut [u8]) -> Fed
     requires { s.n ≡ 0 }
     ensures { spec.Feeding s xs.now page.old page.new result }
 {
-    let start = parts_of(s.session);
+    let start = parts_of(&s.session);
     let mut setting = start.setting;
     let mut entries = start.entries;
     let mut ids = start.ids;
@@ -174,7 +174,7 @@ fn lines(s: Stream, xs: &[u8], page: &mut [u8]) -> Fed
             }
             None => {
                 let stepped = step(session_of(setting, entries), frame);
-                let parts = parts_of(stepped.session);
+                let parts = parts_of(&stepped.session);
                 setting = parts.setting;
                 entries = parts.entries;
                 ids = parts.ids;

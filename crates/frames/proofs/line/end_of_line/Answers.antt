@@ -15,8 +15,7 @@ all s i = take_all (length s - i) (drop i s) (omega (arith, length-drop i s))
 pub overflow_add-result : goal.overflow_add-result
 overflow_add-result c =
     let n = (newline-at c.args.s.now c.skip-i.ensures (all c.args.s.now c.skip-i.result)).0 in
-    let e = c.unwrap_or.ensures in
-    let k = rw c.newline_in.ensures at e in
+    let e = rw c.newline_in.ensures at c.unwrap_or.ensures in
     omega (arith, c.well_formed.1.0.0)
 
 pub returns : goal.returns

@@ -10,11 +10,11 @@ unfolding Standing setting_of
 returns-in-Some c =
     let i = c.identities-ids.ensures in
     record {
-      same = session-parts c.args.session _ c.in-Some.is c.setting_of.ensures;
+      same = session-parts c.args.session.now _ c.in-Some.is c.setting_of.ensures;
       stands = under-own _ c.in-Some.board.targets _ i.1 (rw c.setting_of.ensures) i.0;
       long = ids-long c.in-Some.board.targets _ i.1 i.0;
     }
 
 pub returns-in-None : goal.returns-in-None
 unfolding Standing
-returns-in-None c = record { same = session-none c.args.session _ c.in-None.is; stands = tt; long = refl }
+returns-in-None c = record { same = session-none c.args.session.now _ c.in-None.is; stands = tt; long = refl }
