@@ -54,6 +54,7 @@ impl Modulus {
         requires { x < 2 * self.m }
         ensures { result ≡ x % self.m }
     {
+        // `checked_sub` with `unwrap_or` says the same, and leaves a goal that an `if` does not.
         if x >= self.m { x - self.m } else { x }
     }
 
