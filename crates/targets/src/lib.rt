@@ -107,7 +107,8 @@ fn first_from<T: Named>(among: &[T], identity: u16) -> Option<usize>
 
 // Where an identity stands among these, in their order, or as an error before which it would.
 pub fn seek<T: Named>(among: &[T], identity: u16) -> Result<usize, usize>
-    ensures { result ≡ spec.spot_in 0 identity (map T.name among.now) }
+    ensures value { result ≡ spec.spot_in 0 identity (map T.name among.now) }
+    ensures unchanged { among.exit.now ≡ among.entry.now }
 {
     match first_from(among, identity) {
         Some(p) if among[p].identity() == identity => Ok(p),

@@ -21,12 +21,12 @@ pub returns-in-Ok : goal.returns-in-Ok
 unfolding at_report
 returns-in-Ok c =
     let a = c.args in
-    let at = sym (searched a.identity _ _ a.count a.ids.now c.least.ensures c.min-n.ensures) ∙ sym c.seek.ensures ∙ c.in-Ok.is in
+    let at = sym (searched a.identity _ _ a.count a.ids.now c.least.ensures c.min-n.ensures) ∙ sym c.seek.ensures.value ∙ c.in-Ok.is in
     rw (← c.report_asked.ensures, c.in_default.is, c.vehicle.ensures, at)
 
 pub returns-in-Err-seek : goal.returns-in-Err-seek
 unfolding at_report
 returns-in-Err-seek c =
     let a = c.args in
-    let at = sym (searched a.identity _ _ a.count a.ids.now c.least.ensures c.min-n.ensures) ∙ sym c.seek.ensures ∙ c.in-Err-seek.is in
+    let at = sym (searched a.identity _ _ a.count a.ids.now c.least.ensures c.min-n.ensures) ∙ sym c.seek.ensures.value ∙ c.in-Err-seek.is in
     rw (← c.report_asked.ensures, c.in_default.is, at)
