@@ -32,9 +32,6 @@ use Rattle.walks.specs.declared.Outcome.{Outcome}
 use Rattle.walks.specs.declared.Outcome.TheVariants.{Found, ZeroDerivative, NotConverged, Negative, TooLong}
 use Rattle.jord.specs.declared.length.Length.{Length}
 
-zero_one : ◌≡◌ {A = ℕ} 0 1 → ⊥
-zero_one e = omega arith
-
 pub cond_same : {A : Type 0} (b : Bool) (x : A) → cond b x x ≡ x
 cond_same true x = refl
 cond_same false x = refl
@@ -208,10 +205,10 @@ found_of duration f t (walked.Accepted u n) ns count r e = of-converted (duratio
         let a : n ≡ count = cc in
         let b : m ≡ ns = cc in
         record { time = u; ends = rw (← a) r; lasts = d ∙ ap Ok b }
-    of-converted (Err refused.Negative) d e = let z : ◌≡◌ {A = ℕ} 0 1 = cc in absurd (zero_one z)
-    of-converted (Err refused.TooLong) d e = let z : ◌≡◌ {A = ℕ} 0 1 = cc in absurd (zero_one z)
-found_of duration f t (walked.ZeroDerivative n) ns count r e = let z : ◌≡◌ {A = ℕ} 0 1 = cc in absurd (zero_one z)
-found_of duration f t walked.NotConverged ns count r e = let z : ◌≡◌ {A = ℕ} 0 1 = cc in absurd (zero_one z)
+    of-converted (Err refused.Negative) d e = absurd (cc)
+    of-converted (Err refused.TooLong) d e = absurd (cc)
+found_of duration f t (walked.ZeroDerivative n) ns count r e = absurd (cc)
+found_of duration f t walked.NotConverged ns count r e = absurd (cc)
 
 -- closest approach accepts "the time before the correction"
 accepts-before : (a b : Bool) (x u v : Float) → cond a step.ZeroDerivative (cond b (step.Accepted x) (step.Next v)) ≡ step.Accepted u → u ≡ x
