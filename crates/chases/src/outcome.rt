@@ -1,5 +1,6 @@
 // What a walk comes to in the answer, with a reason for every refusal.
-ghost use Rattle.std.specs.Prelude.{◌≡◌};
+ghost use Rattle.std.specs.Prelude.{◌≡◌, ℕ, Float, Result};
+ghost use Rattle.duration.specs.declared.OutOfRange.{OutOfRange as refused};
 ghost use Rattle.walks.specs.Outcome as spec;
 
 use duration::OutOfRange;
@@ -9,19 +10,23 @@ use walks::{Outcome, Walk};
 pub fn of_seconds(w: Walk) -> Outcome
     ensures { result ≡ spec.of_seconds w }
 {
-    match w {
-        Walk::Accepted { time, count } => of_converted(duration::from_seconds(time), count),
-        Walk::ZeroDerivative { count } => Outcome::ZeroDerivative { count },
-        Walk::NotConverged => Outcome::NotConverged,
-    }
+    of_walk(w, |t| duration::from_seconds(t))
 }
 
 // The outcome of a walk over hours.
 pub fn of_hours(w: Walk) -> Outcome
     ensures { result ≡ spec.of_hours w }
 {
+    of_walk(w, |t| duration::from_hours(t))
+}
+
+// The outcome of a walk, by what makes a duration of its time.
+fn of_walk<D: Fn(f64) -> Result<u64, OutOfRange>>(w: Walk, duration: D) -> Outcome
+    requires { D.IsAlwaysCallable duration }
+    ensures { (d : Float → Result ℕ refused) → ((t : Float) (r : Result ℕ refused) → D.post duration t r → r ≡ d t) → result ≡ spec.of_walk d w }
+{
     match w {
-        Walk::Accepted { time, count } => of_converted(duration::from_hours(time), count),
+        Walk::Accepted { time, count } => of_converted(duration(time), count),
         Walk::ZeroDerivative { count } => Outcome::ZeroDerivative { count },
         Walk::NotConverged => Outcome::NotConverged,
     }
