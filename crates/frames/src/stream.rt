@@ -16,7 +16,7 @@ use wire::reply::{Reply, put};
 // The room that any reply fits, its newline with it.
 const ROOM: usize = wire::reply::MOST_REPLY_DIGITS + 1;
 
-// The session, and the first n bytes of a line that has begun.
+// The session, and the first n bytes of a line that has begun. No memory but fixed: an array by value, with how much of it counts.
 #[derive(Clone, Copy)]
 pub struct Stream {
     pub session: Session,
