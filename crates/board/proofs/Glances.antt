@@ -1,5 +1,5 @@
 -- What a glance tells holds of every board of the setting (`glanced`): the questions of a report, a store where its identity stands, and a sweep.
-use Rattle.std.specs.Prelude.{None, Result, Ok, Err}
+use Rattle.std.specs.Prelude.{Option, Some, None, Result, Ok, Err}
 use Prim.Native.Nat.{ℕ, zero, suc, ◌≤◌, ◌<◌}
 use native.Mathlib.Omega.{arith}
 use mathlib.Core.List.{List, [], ◌∷◌, map}
@@ -127,7 +127,7 @@ sets-track s e = record { names_none = refl; sweeps = λ l. refl; answer_is = λ
 
 module _ (s : Setting) (ids : List ℕ) where
   -- a hint is right where a refusal stays and what is accepted is right
-  unless-refused : (c : Call) (q : Said) (h : Hint) → ((r : Refusal) → q ≡ Err r → (es : List Target) → answer (plain (board_of s es)) c ≡ Err r)
+  unless-refused : (c : Call) (q : Said) (h : Option Hint) → ((r : Refusal) → q ≡ Err r → (es : List Target) → answer (plain (board_of s es)) c ≡ Err r)
       → (q ≡ Ok tt → Glanced s ids c h) → Glanced s ids c (unless_refused q h)
   unfolding Glanced
   unless-refused c (Ok tt) h refused right = right refl
@@ -148,7 +148,7 @@ module _ (s : Setting) (ids : List ℕ) where
   setting-right : (c : Call) (q : Said) → Sets c q → Glanced s ids c (at_setting s c q)
   unfolding at_setting Glanced
   setting-right c q k =
-      unless-refused c q (Sweeps (set_by c s)) (λ r e es. k.answer_is (plain (board_of s es)) ∙ rw e)
+      unless-refused c q (Some (Sweeps (set_by c s))) (λ r e es. k.answer_is (plain (board_of s es)) ∙ rw e)
       (λ yes es u. (sweeps-under s ids c q k yes es u, sweeps-turns s ids c q k yes es u))
 
 -- what a glance tells is right of every board of the setting whose targets have the identities

@@ -1,6 +1,6 @@
 // What a call makes of a board, told from all but the entries of its targets where that is enough. The entries are long: who holds them
 // in place need not hand them over for a report.
-ghost use Rattle.std.specs.Prelude.{◌≡◌};
+ghost use Rattle.std.specs.Prelude.{◌≡◌, Some};
 ghost use Rattle.board.specs.Glance as spec;
 
 use crate::board::{own_after, track_after};
@@ -33,8 +33,6 @@ pub enum Hint {
     Puts(usize, Target),
     // The call is done, every line is taken away, and this is the setting after it.
     Sweeps(Setting),
-    // A glance tells nothing of the call: the entries have to be looked at.
-    Unclear,
 }
 
 // The setting of a board.
@@ -72,39 +70,34 @@ pub fn board_of(setting: Setting, entries: [Target; MOST_TARGETS]) -> Board
     }
 }
 
-// What a call makes of every board of this setting whose targets have these identities.
-pub fn glance(setting: Setting, ids: &[u16], call: Call) -> Hint
+// What a call makes of every board of this setting whose targets have these identities; none where the entries have to be looked at.
+pub fn glance(setting: Setting, ids: &[u16], call: Call) -> Option<Hint>
     ensures value { result ≡ spec.glance setting ids.now call }
     ensures unchanged { ids.exit.now ≡ ids.entry.now }
 {
     match call {
         Call::Report(identity, fix) => at_report(setting.count, ids, identity, fix),
-        Call::Withdraw(_) => Hint::Unclear,
-        Call::OwnShip(fix) => at_setting(setting, call, fix_asked(fix)),
-        Call::Track(start, end) => at_setting(setting, call, ends_asked(start, end)),
-        Call::Solve(_) => Hint::Unclear,
+        Call::Withdraw(_) => None,
+        Call::OwnShip(fix) => Some(at_setting(setting, call, fix_asked(fix))),
+        Call::Track(start, end) => Some(at_setting(setting, call, ends_asked(start, end))),
+        Call::Solve(_) => None,
     }
 }
 
 // A report of an identity that is held takes its place.
-fn at_report(count: usize, ids: &[u16], identity: u16, fix: Fix) -> Hint
+fn at_report(count: usize, ids: &[u16], identity: u16, fix: Fix) -> Option<Hint>
     ensures { result ≡ spec.at_report count ids.now identity fix }
 {
     if let Err(refusal) = report_asked(identity, fix) {
-        return Hint::Stays(Err(refusal));
+        return Some(Hint::Stays(Err(refusal)));
     }
     let n = least(count).min(ids.len());
-    match seek(&ids[..n], identity) {
-        Ok(p) => {
-            let held = Held {
-                report: vehicle(fix),
-                line: None,
-            };
-            let target = Target { identity, held };
-            Hint::Puts(p, target)
-        }
-        Err(_) => Hint::Unclear,
-    }
+    let p = seek(&ids[..n], identity).ok()?;
+    let held = Held {
+        report: vehicle(fix),
+        line: None,
+    };
+    Some(Hint::Puts(p, Target { identity, held }))
 }
 
 // The questions of a report whose target is held.
@@ -117,7 +110,7 @@ fn report_asked(identity: u16, fix: Fix) -> Result<(), Refusal>
 
 // An own ship or a track of which this is said: one that is accepted takes every line away.
 fn at_setting(setting: Setting, call: Call, said: Result<(), Refusal>) -> Hint
-    ensures { result ≡ spec.at_setting setting call said }
+    ensures { Some result ≡ spec.at_setting setting call said }
 {
     match said {
         Ok(()) => Hint::Sweeps(Setting {

@@ -57,12 +57,12 @@ turned s q es fs c a t =
     heard (record { board = Some (board_of s es) }) c {r = record { board = board_of q fs; answer = a }} {k = kind_of c} {y = told (kind_of c) a}
     refl (sym t.answers) (sym t.leaves) refl refl
 
-hinted-right : (s : Setting) (ids : List ℕ) (c : Call) (h : Hint) → Glanced s ids c h → Quickly (Some s) ids (Some (frame.Told c)) (hinted (kind_of c) h)
+hinted-right : (s : Setting) (ids : List ℕ) (c : Call) (h : Option Hint) → Glanced s ids c h → Quickly (Some s) ids (Some (frame.Told c)) (hinted (kind_of c) h)
 unfolding Quickly Standing Glanced hinted told
-hinted-right s ids c (hint.Stays a) g = λ es u. turned s s es es c a (g es u)
-hinted-right s ids c (hint.Puts p t) g = λ es u. ((g es u).0, (g es u).1, turned s s es _ c (Ok None) (g es u).2)
-hinted-right s ids c (hint.Sweeps q) g = λ es u. ((g es u).0, turned s q es _ c (Ok None) (g es u).1)
-hinted-right s ids c hint.Unclear g = tt
+hinted-right s ids c (Some (hint.Stays a)) g = λ es u. turned s s es es c a (g es u)
+hinted-right s ids c (Some (hint.Puts p t)) g = λ es u. ((g es u).0, (g es u).1, turned s s es _ c (Ok None) (g es u).2)
+hinted-right s ids c (Some (hint.Sweeps q)) g = λ es u. ((g es u).0, turned s q es _ c (Ok None) (g es u).1)
+hinted-right s ids c None g = tt
 
 call-right : (o : Option Setting) (ids : List ℕ) (c : Call) → Quickly o ids (Some (frame.Told c)) (at_call o ids c)
 unfolding Quickly at_call session_of
@@ -85,7 +85,7 @@ quickly o ids (Some frame.Total) = λ es u. asked (session_of o es) (Some frame.
 quickly o ids None = λ es u. no-frame (session_of o es) refl
 
 -- a call of a session that has a board, by the glance's hint
-pub call-goes : (o : Option Setting) (ids : List ℕ) (c : Call) {s : Setting} {k : Kind} {g h : Hint} → o ≡ Some s → k ≡ kind_of c → g ≡ glance s ids c → g ≡ h
+pub call-goes : (o : Option Setting) (ids : List ℕ) (c : Call) {s : Setting} {k : Kind} {g h : Option Hint} → o ≡ Some s → k ≡ kind_of c → g ≡ glance s ids c → g ≡ h
     → hinted k h ≡ at_call o ids c
 unfolding at_call
 call-goes o ids c on e f t = rw (on, ← t, f, e)

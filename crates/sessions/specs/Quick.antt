@@ -48,11 +48,11 @@ total_reply None = reply.NotAFrame
 total_reply (Some s) = reply.Total s.total
 
 -- what a glance tells of a call of this kind
-unfoldable pub hinted : Kind → Hint → Option Quick
-hinted k (hint.Stays a) = Some (Stays (told k a))
-hinted k (hint.Puts p t) = Some (Puts k p t)
-hinted k (hint.Sweeps q) = Some (Sweeps k q)
-hinted k hint.Unclear = None
+unfoldable pub hinted : Kind → Option Hint → Option Quick
+hinted k (Some (hint.Stays a)) = Some (Stays (told k a))
+hinted k (Some (hint.Puts p t)) = Some (Puts k p t)
+hinted k (Some (hint.Sweeps q)) = Some (Sweeps k q)
+hinted k None = None
 
 -- a call: number 1 where there is no board
 unfoldable pub at_call : Option Setting → List ℕ → Call → Option Quick

@@ -54,10 +54,10 @@ fn at_call(setting: Option<Setting>, ids: &[u16], call: Call) -> Option<Quick>
         return Some(Quick::Stays(Reply::NotAFrame));
     };
     let kind = kind_of(call);
-    match glance(s, ids, call) {
-        Hint::Stays(answer) => Some(Quick::Stays(told(kind, answer))),
-        Hint::Puts(p, target) => Some(Quick::Puts(kind, p, target)),
-        Hint::Sweeps(after) => Some(Quick::Sweeps(kind, after)),
-        Hint::Unclear => None,
-    }
+    let hint = glance(s, ids, call)?;
+    Some(match hint {
+        Hint::Stays(answer) => Quick::Stays(told(kind, answer)),
+        Hint::Puts(p, target) => Quick::Puts(kind, p, target),
+        Hint::Sweeps(after) => Quick::Sweeps(kind, after),
+    })
 }
