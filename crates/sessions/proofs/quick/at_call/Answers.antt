@@ -1,6 +1,8 @@
 -- A call, by the glance at the board.
-use mathlib.Core.Path.{refl, ap, ◌∙◌}
-use Rattle.std.specs.Prelude.{Some}
+use mathlib.Core.Path.{◌≡◌, refl, ap, ◌∙◌}
+use Rattle.std.proofs.Common.{rules}
+use Rattle.std.specs.Prelude.{Some, None}
+use Rattle.board.specs.declared.glance.Hint.{Hint}
 use Rattle.wire.specs.declared.reply.Reply.{Reply}
 use Rattle.sessions.specs.declared.quick.Quick.TheVariants.{Stays}
 use Rattle.sessions.specs.Quick.{hinted, at_call}
@@ -11,19 +13,26 @@ pub returns-in_default : goal.returns-in_default
 unfolding at_call
 returns-in_default c = rw c.in_default.is
 
+pub returns-in_err-hint : goal.returns-in_err-hint
+unfolding hinted
+returns-in_err-hint c =
+    let none : c.from_residual.result ≡ None = search rules in
+    none ∙ call-goes _ _ _ c.in-Some.is c.kind_of-kind.ensures c.glance.ensures.value c.in_err-hint.was
+
 pub returns-in-Stays : goal.returns-in-Stays
 unfolding hinted
 returns-in-Stays c =
-    ap (λ (y : Reply). Some (Stays y)) c.told.ensures ∙ call-goes _ _ _ c.in-Some.is c.kind_of-kind.ensures c.glance.ensures.value c.in-Stays.is
+    let told = c.in_ok-hint.was ∙ ap (λ (h : Hint). Some h) c.in-Stays.is in
+    ap (λ (y : Reply). Some (Stays y)) c.told.ensures ∙ call-goes _ _ _ c.in-Some.is c.kind_of-kind.ensures c.glance.ensures.value told
 
 pub returns-in-Puts : goal.returns-in-Puts
 unfolding hinted
-returns-in-Puts c = call-goes _ _ _ c.in-Some.is c.kind_of-kind.ensures c.glance.ensures.value c.in-Puts.is
+returns-in-Puts c =
+    let told = c.in_ok-hint.was ∙ ap (λ (h : Hint). Some h) c.in-Puts.is in
+    call-goes _ _ _ c.in-Some.is c.kind_of-kind.ensures c.glance.ensures.value told
 
 pub returns-in-Sweeps : goal.returns-in-Sweeps
 unfolding hinted
-returns-in-Sweeps c = call-goes _ _ _ c.in-Some.is c.kind_of-kind.ensures c.glance.ensures.value c.in-Sweeps.is
-
-pub returns-in-Unclear : goal.returns-in-Unclear
-unfolding hinted
-returns-in-Unclear c = call-goes _ _ _ c.in-Some.is c.kind_of-kind.ensures c.glance.ensures.value c.in-Unclear.is
+returns-in-Sweeps c =
+    let told = c.in_ok-hint.was ∙ ap (λ (h : Hint). Some h) c.in-Sweeps.is in
+    call-goes _ _ _ c.in-Some.is c.kind_of-kind.ensures c.glance.ensures.value told
