@@ -6,7 +6,7 @@ use board::board::{fresh, hear};
 use jord::positions::NVector;
 use means::NoMean;
 use plain::call::{Answer, Call, Refusal};
-use plain::state::Board;
+use plain::state::{Answered, Board};
 use targets::asking::{mean, pick, total};
 use wire::frame::Frame;
 use wire::kind::Kind;
@@ -77,14 +77,11 @@ fn tell(s: Session, call: Call) -> Stepped
     ensures { spec.Stepping s (Some (Frame.Told call)) result }
 {
     match s.board {
-        Some(board) => {
-            let heard = hear(board, call);
-            Stepped {
-                session: Session {
-                    board: Some(heard.board),
-                },
-                reply: told(kind_of(call), heard.answer),
-            }
+        Some(held) => {
+            let Answered { board, answer } = hear(held, call);
+            let session = Session { board: Some(board) };
+            let reply = told(kind_of(call), answer);
+            Stepped { session, reply }
         }
         None => Stepped {
             session: s,
