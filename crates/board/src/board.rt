@@ -172,11 +172,8 @@ fn name_of(call: Call) -> u16
     ensures { result ≡ code.name_of call }
 {
     match call {
-        Call::Report(identity, _) => identity,
-        Call::Withdraw(identity) => identity,
-        Call::OwnShip(_) => 0,
-        Call::Track(_, _) => 0,
-        Call::Solve(identity) => identity,
+        Call::Report(identity, _) | Call::Withdraw(identity) | Call::Solve(identity) => identity,
+        Call::OwnShip(_) | Call::Track(_, _) => 0,
     }
 }
 
@@ -266,11 +263,9 @@ fn count_after(change: Change, n: usize) -> usize
     ensures { result ≡ code.count_after change n }
 {
     match change {
-        Change::Stays => n,
-        Change::Stores(_, _) => n,
         Change::Inserts(_, _) => n + 1,
-        Change::Removes(_) => if n == 0 { 0 } else { n - 1 },
-        Change::Sweeps => n,
+        Change::Removes(_) => n.saturating_sub(1),
+        Change::Stays | Change::Stores(_, _) | Change::Sweeps => n,
     }
 }
 

@@ -10,6 +10,7 @@ use jord::positions::NVector;
 use means::NoMean;
 use means::columns::mean_of_columns;
 use plain::call::Refusal;
+use plain::line::Line;
 use plain::state::Board;
 use plain::targets::{MOST_TARGETS, Target};
 use vectors::vec3::Vec3;
@@ -60,9 +61,7 @@ fn columns_of(entries: [Target; MOST_TARGETS]) -> [f64; MOST_PARTS]
 fn vector_of(t: Target) -> Vec3
     ensures { result ≡ spec.vector_of t }
 {
-    let held = t.held;
-    let report = held.report;
-    report.position.as_vec3()
+    t.held.report.position.as_vec3()
 }
 
 // The target of the lowest identity among those whose found meeting time is least; NoMeeting (19) where none has one.
@@ -87,21 +86,14 @@ fn soonest(targets: &[Target]) -> Option<Best>
 fn better(b: Option<Best>, t: Target) -> Option<Best>
     ensures { result ≡ spec.better b t }
 {
-    let held = t.held;
-    let line = held.line;
-    let Some(solved) = line else {
-        return b;
-    };
-    let meeting = solved.meeting;
-    match meeting {
-        Outcome::Found {
-            nanoseconds,
-            count: _,
-        } => sooner(b, t.identity, nanoseconds),
-        Outcome::ZeroDerivative { count: _ } => b,
-        Outcome::NotConverged => b,
-        Outcome::Negative { count: _ } => b,
-        Outcome::TooLong { count: _ } => b,
+    match t.held.line {
+        Some(
+            Line {
+                meeting: Outcome::Found { nanoseconds, .. },
+                ..
+            },
+        ) => sooner(b, t.identity, nanoseconds),
+        _ => b,
     }
 }
 

@@ -18,6 +18,7 @@ pub mod asking;
 const LAST: usize = MOST_TARGETS - 1;
 
 // What a search for an identity gives: the place where it stands, or as an error that where it would, and what is held under it.
+// Two fields, for the questions read what is held and the change reads the place.
 #[derive(Clone, Copy)]
 pub struct Sought {
     pub spot: Result<usize, usize>,

@@ -35,6 +35,8 @@ pub enum Frame {
     Total,
 }
 
+// A line and a place stay two parameters below: document 01 counts the digits of a frame from its start, and a rest of the line would count anew.
+
 // The float of the 16 digits of s from at on, 0 where s ends before; every NaN pattern is a NaN.
 fn float_at(s: &[u8], at: usize) -> f64
     ensures { result ≡ spec.float_at lows_in s.now at }

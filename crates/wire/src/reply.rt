@@ -55,6 +55,8 @@ pub enum Reply {
     NotAFrame,
 }
 
+// The page and a place stay two parameters: in a struct the page would be lent within a lent value, `self.old.bytes.now` where a contract says `out.old`.
+
 // A kind and a number: four digits.
 fn put_two(out: &mut [u8], at: usize, kind: u8, number: u8) -> usize
     requires { at + 4 ≤ length out.old }
