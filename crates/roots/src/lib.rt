@@ -6,53 +6,16 @@ ghost use Rattle.roots.specs.Root as spec;
 
 use patterns::{FIELD, INFINITY, Unpacked, unpack};
 
-// The whole part of the root of m * 2^54, digit by digit.
-fn root_by_digits(m: u64) -> u64
-    requires { m < 2 ^ 54 }
-    ensures { (result ≡ spec.whole_root (m * 2 ^ 54)) × (result < 2 ^ 54) }
-{
-    let mut root: u64 = 0;
-    let mut rest: u64 = m;
-    for place in (0..54u32).rev() {
-        let bit = 1 << place;
-        rest *= 2;
-        let t = root * 2 + bit;
-        if t <= rest {
-            rest -= t;
-            root += bit;
-        }
-    }
-    root
+// The root of m * 2^54 is sought: of 53 or 54 bits, for the power of two that is left is even.
+#[derive(Clone, Copy)]
+struct Radicand {
+    m: u64,
+    ghost fits: { m < 2 ^ 54 },
 }
 
 // A step of Newton's towards the root of s. Nothing rests on it.
 fn newton(s: f64, y: f64) -> f64 {
     0.5 * (y + s / y)
-}
-
-// m * 2^-52 for an m from 2^52 up. Nothing rests on it.
-#[tactic(auto, using(patterns::proofs::Pattern::no_nan))]
-fn significand(m: u64) -> f64
-    requires { m < 2 ^ 54 }
-{
-    if m < 0x20_0000_0000_0000 {
-        return f64::from_bits(0x3fe * FIELD + m);
-    }
-    f64::from_bits(0x3ff * FIELD + m / 2)
-}
-
-// Near half the root of m * 2^54, for an m from 2^52 up: three of Newton's steps from a quadratic. Nothing rests on how near.
-fn estimate(m: u64) -> u64
-    requires { m < 2 ^ 54 }
-    ensures { (2 ^ 52 ≤ result) × (result < 2 ^ 53) }
-{
-    let s = significand(m);
-    let a = 0.5185546283489475 + s * (0.5260096907302437 - s * 0.03954011274601693);
-    let d = newton(s, newton(s, newton(s, a)));
-    if d.is_nan() {
-        return FIELD;
-    }
-    f64::to_bits(d) % FIELD + FIELD
 }
 
 // Whether the square of q is at most m * 2^54.
@@ -70,22 +33,63 @@ fn is_half_root(r: u64, m: u64) -> bool
     at_most(2 * r - 1, m) && !at_most(2 * r + 1, m)
 }
 
-// Half the root of m * 2^54, to the nearest whole number: the estimate, moved by one at most, or else digit by digit.
-fn half_root(m: u64) -> u64
-    requires { m < 2 ^ 54 }
-    ensures { result ≡ (spec.whole_root (m * 2 ^ 54) + 1) / 2 }
-{
-    let r = estimate(m);
-    if is_half_root(r, m) {
-        return r;
+impl Radicand {
+    // The whole part of the root, digit by digit.
+    fn root_by_digits(self) -> u64
+        ensures { (result ≡ spec.whole_root (self.m * 2 ^ 54)) × (result < 2 ^ 54) }
+    {
+        let mut root: u64 = 0;
+        let mut rest: u64 = self.m;
+        for place in (0..54u32).rev() {
+            let bit = 1 << place;
+            rest *= 2;
+            let t = root * 2 + bit;
+            if t <= rest {
+                rest -= t;
+                root += bit;
+            }
+        }
+        root
     }
-    if is_half_root(r + 1, m) {
-        return r + 1;
+
+    // m * 2^-52 for an m from 2^52 up. Nothing rests on it.
+    #[tactic(auto, using(patterns::proofs::Pattern::no_nan))]
+    fn significand(self) -> f64 {
+        if self.m < 0x20_0000_0000_0000 {
+            return f64::from_bits(0x3fe * FIELD + self.m);
+        }
+        f64::from_bits(0x3ff * FIELD + self.m / 2)
     }
-    if is_half_root(r - 1, m) {
-        return r - 1;
+
+    // Near half the root, for an m from 2^52 up: three of Newton's steps from a quadratic. Nothing rests on how near.
+    fn estimate(self) -> u64
+        ensures { (2 ^ 52 ≤ result) × (result < 2 ^ 53) }
+    {
+        let s = self.significand();
+        let a = 0.5185546283489475 + s * (0.5260096907302437 - s * 0.03954011274601693);
+        let d = newton(s, newton(s, newton(s, a)));
+        if d.is_nan() {
+            return FIELD;
+        }
+        f64::to_bits(d) % FIELD + FIELD
     }
-    (root_by_digits(m) + 1) / 2
+
+    // Half the root, to the nearest whole number: the estimate, moved by one at most, or else digit by digit.
+    fn half_root(self) -> u64
+        ensures { result ≡ (spec.whole_root (self.m * 2 ^ 54) + 1) / 2 }
+    {
+        let r = self.estimate();
+        if is_half_root(r, self.m) {
+            return r;
+        }
+        if is_half_root(r + 1, self.m) {
+            return r + 1;
+        }
+        if is_half_root(r - 1, self.m) {
+            return r - 1;
+        }
+        (self.root_by_digits() + 1) / 2
+    }
 }
 
 // The root of digits * 2^place units. The digits are first shifted up by their leading zeros.
@@ -97,7 +101,7 @@ fn root_of(p: Unpacked) -> f64
     // digits << (zeros - 11) has 53 digits; one more makes the power of two that is left even
     let top = p.place + 64 - zeros;
     let m = p.digits << (zeros - 11 + (top + 1) % 2);
-    f64::from_bits((top + 969) / 2 * FIELD + half_root(m))
+    f64::from_bits((top + 969) / 2 * FIELD + Radicand { m }.half_root())
 }
 
 // The square root, by the integer root that document 01 asks for and not the machine's own: NaN for a NaN and below zero; -0, +0 and +infinity return.

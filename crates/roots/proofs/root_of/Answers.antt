@@ -13,8 +13,9 @@ free p h = zeros-in p.digits h p.digits_fit
 pub overflow_sub-m : goal.overflow_sub-m
 overflow_sub-m c = omega (arith, free c.args.p c.requires)
 
-pub half_root-requires : goal.half_root-requires
-half_root-requires c = let p = c.args.p in rw c.from-zeros.ensures (lifted-lt p.digits p.place c.requires p.digits_fit p.place_fits)
+pub invariant_of-half_root : goal.invariant_of-half_root
+invariant_of-half_root c =
+    let p = c.args.p in record { fits = rw c.from-zeros.ensures (lifted-lt p.digits p.place c.requires p.digits_fit p.place_fits) }
 
 -- the pattern, with the half root as the call gave it
 under : (c : goal.After-half_root) → (c.args.p.place + 64 - c.from-zeros.result + 969) / 2 * 2 ^ 52 + c.half_root.result < 2047 * 2 ^ 52
