@@ -22,6 +22,8 @@ pub fn course(vehicle: Vehicle) -> Vec3
     Mat33::vec3_mul(Vec3::UNIT_Z, r)
 }
 
+// A function for each axis, as in the source: one for all would choose its nine parts by a match of three arms.
+
 // The rotation about the x axis.
 #[tactic(auto, unfolding(walks::specs::Course::course_rx))]
 fn course_rx(theta: f64) -> Mat33

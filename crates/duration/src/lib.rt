@@ -56,6 +56,7 @@ pub fn from_seconds(t: f64) -> Result<u64, OutOfRange>
     Ok(nearest_even(patterns::unpack(patterns::to_bits(t))))
 }
 
+// Not one function with that of seconds: document 01 rounds the two otherwise, and only this one multiplies as floats do.
 // The duration of h hours: the float product with 3.6e12, nearest, halves away from zero.
 pub fn from_hours(h: f64) -> Result<u64, OutOfRange>
     ensures { result ≡ spec.from_hours h }

@@ -96,6 +96,8 @@ pub fn fix_asked(fix: Fix) -> Result<(), Refusal>
     speed_asked(fix)
 }
 
+// The ends of a track stay two parameters below: document 01 hands over two positions, and `Call::Track` holds two.
+
 // Are all numbers of the two positions finite?
 fn ends_finite_asked(start: Coordinates, end: Coordinates) -> Result<(), Refusal>
     ensures { result ≡ spec.ends_finite_asked start end }

@@ -110,6 +110,8 @@ fn pick_told(choice: Result<u16, Refusal>) -> Reply
     }
 }
 
+// Three matches that differ in what is asked: of one function over a closure, or of `map_or`, the proof did not close.
+
 // The reply to a frame that asks for the mean position, ff01 where no board has been started.
 fn ask_mean(s: Session) -> Reply
     ensures { result ≡ spec.reply_of (spec.plain_of s) (Some Frame.Mean) }
