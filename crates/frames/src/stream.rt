@@ -105,7 +105,7 @@ fn session_of(setting: Option<Setting>, entries: [Target; MOST_TARGETS]) -> Sess
 fn waits(end: usize, length: usize, left: usize) -> bool
     ensures { result ≡ turn.waits end length left }
 {
-    if end < length { left < ROOM } else { true }
+    end >= length || left < ROOM
 }
 
 // Goes on with a line that has begun: answers it where it ends in the piece and any reply fits the page.
@@ -154,6 +154,7 @@ fn lines(s: Stream, xs: &[u8], page: &mut [u8]) -> Fed
     let mut ids = start.ids;
     let mut at = 0;
     let mut i = 0;
+    // A line's length is known once it is met, so no range and no iterator over xs gives the places where lines begin.
     while i < xs.len() {
         let rest = &xs[i..];
         let span = line_at(rest);
