@@ -88,11 +88,12 @@ kept-begun s n l e =
     (take_all kept (take n s.line) (omega (arith, length-take n s.line, l)) ∙ clamped s.line s.n n l e)
 
 -- the bytes up to the end of the line that has begun passed, and what is kept of it
-begun-passed : (s : Stream) {xs page : List ℕ} {n e : ℕ} → length s.line ≡ kept → n ≡ least s.n → Passes xs 0 e
+begun-passed : (s : Stream) {xs page : List ℕ} {n e : ℕ} → length s.line ≡ kept → n ≡ least s.n → Passes xs e
     → Passed (view s) xs page page s.session (take n s.line ++ take e xs) 0 e
 begun-passed s {xs} {page} {n} {e} l h w =
-    subst (λ (z : List ℕ). Passed (view s) xs page page s.session (take n s.line ++ z) 0 e) (ap (λ (k : ℕ). take k xs) (sub-zero e))
-    (passed-bytes (opening (view s) xs page (take n s.line) s.session (kept-begun s n l h)) w)
+    let w₀ : Passes (drop 0 xs) e = w in
+    subst (λ (k : ℕ). Passed (view s) xs page page s.session (take n s.line ++ take e xs) 0 k) (zero-add e)
+    (passed-bytes {i = 0} {n = e} (opening (view s) xs page (take n s.line) s.session (kept-begun s n l h)) w₀)
 
 begun_kept : (xs : List ℕ) (e : ℕ) {begun line : List ℕ} {n k : ℕ} → Joined begun n (take e xs) line → e ≤ length xs → k ≡ least (n + e)
     → take k line ≡ take kept (take n begun ++ take e xs)
@@ -100,17 +101,17 @@ begun_kept xs e {begun} {line} {n} {k} j w h =
     ap (λ (m : ℕ). take m line) (h ∙ ap (λ (m : ℕ). least (n + m)) (sym (length-take-le e xs w))) ∙ j.text
 
 -- both, of the line that has begun as far as the piece goes
-pub begun-line : (s : Stream) (xs page : List ℕ) {n e k : ℕ} {line : List ℕ} → length s.line ≡ kept → n ≡ least s.n → EndsAt xs 0 e
+pub begun-line : (s : Stream) (xs page : List ℕ) {n e k : ℕ} {line : List ℕ} → length s.line ≡ kept → n ≡ least s.n → EndsAt xs e
     → Joined s.line n (take e xs) line → k ≡ least (n + e)
     → Passed (view s) xs page page s.session (take n s.line ++ take e xs) 0 e × (take k line ≡ take kept (take n s.line ++ take e xs))
 begun-line s xs page {e = e} l h w j k = (begun-passed s l h w.passes, begun_kept xs e j w.passes.within k)
 
 -- a line has one end
-pub ends_same : (xs : List ℕ) {i a b : ℕ} → EndsAt xs i a → EndsAt xs i b → a ≡ b
-ends_same xs {i} {a} {b} e f =
+pub ends_same : (xs : List ℕ) {a b : ℕ} → EndsAt xs a → EndsAt xs b → a ≡ b
+ends_same xs {a} {b} e f =
     split a b
-    (λ h. split b a (λ g. omega arith) (λ g. absurd (f.passes.before a e.passes.from g (e.ends (omega (arith, f.passes.within))))))
-    (λ h. absurd (e.passes.before b f.passes.from h (f.ends (omega (arith, e.passes.within)))))
+    (λ h. split b a (λ g. omega arith) (λ g. absurd (f.passes.before a g (e.ends (omega (arith, f.passes.within))))))
+    (λ h. absurd (e.passes.before b h (f.ends (omega (arith, e.passes.within)))))
 
 -- ---- what waits
 

@@ -7,16 +7,16 @@ use mathlib.Core.Logic.{◌≢◌}
 use mathlib.Core.Path.{◌≡◌, refl, sym, ap, ◌∙◌}
 use native.Mathlib.Omega.{arith}
 use borrow.Author.Tests.{eqb-false, eqb-true, ltb-false}
-use Rattle.std.specs.Prelude.{◌==◌, Option, Some, None, nat_lt, not, cond}
+use Rattle.std.specs.Prelude.{◌==◌, Some, None, nat_lt, not, cond}
 use Rattle.std.specs.List.{position, position_or_len}
 use Rattle.std.specs.Option.{unwrap_or}
 use Rattle.std.proofs.lemmas.List.Sums.{passes_at_first, fails_before_first, prefix_len-le-length}
 use lib.Dec.{eqb}
-use lib.ListN.{length, take, drop, get_or, length-drop}
-use lib.Seq.{get_or-take, get_or-drop, length-take-le, take_all, take-append-add}
+use lib.ListN.{length, take, drop, get_or, get_or-append, length-append, length-drop}
+use lib.Seq.{drop-append_seam, drop-drop, get_or-take, get_or-drop, length-take-le, take_all, take-append-add}
 use Rattle.unhex.specs.Digits.{all_digits}
-use Rattle.unhex.proofs.Read.{digit-from, digits-each, part_length}
-use Rattle.frames.specs.Line.{kept, least, NoNewline, Holds, Passes, EndsAt, part}
+use Rattle.unhex.proofs.Read.{digit-from, digits-each}
+use Rattle.frames.specs.Line.{kept, least, NoNewline, Holds, Passes, EndsAt}
 use Rattle.frames.specs.Whole.{newline}
 use Rattle.frames.proofs.Pieces.{split}
 
@@ -26,56 +26,38 @@ neither true e = absurd (true≢false e)
 neither false e = (refl, e)
 
 module _ (s : List ℕ) where
-  -- ---- no newline
-
-  -- none from a to b and none from b to c
-  none-through : (a b c : ℕ) → NoNewline s a b → NoNewline s b c → NoNewline s a c
-  none-through a b c f g k l u = split b k (λ h. g k h u) (λ h. f k l h)
-
-  -- none from i to b where at most the byte at i stands there, and is no newline
-  none-at : (i b : ℕ) → b ≤ i + 1 → get_or s i 0 ≢ newline → NoNewline s i b
-  none-at i b h n k l u e =
-      let i-is-k : i ≡ k = omega arith in
-      n (ap (λ (j : ℕ). get_or s j 0) i-is-k ∙ e)
+  -- none among n bytes and none from there to m
+  none-through : (n m : ℕ) → NoNewline s n → ((k : ℕ) → n ≤ k → k < m → get_or s k 0 ≢ newline) → NoNewline s m
+  none-through n m f g k u = split n k (λ h. g k h u) (λ h. f k h)
 
   -- the step of a loop that keeps in `met` whether a newline was met among the first i bytes
-  pub holds_on : (at i : ℕ) (met : Bool) {b : ℕ} → b ≡ get_or s (at + i) 0 → Holds s at i met → Holds s at (i + 1) (met || eqb b newline)
-  holds_on at i met {b} e f h =
+  pub holds_on : (i : ℕ) (met : Bool) {b : ℕ} → b ≡ get_or s i 0 → Holds s i met → Holds s (i + 1) (met || eqb b newline)
+  holds_on i met {b} e f h =
       let was = neither met h in
-      let byte = none-at (at + i) (at + (i + 1)) (omega arith) (λ n. eqb-false b newline was.1 (e ∙ n)) in
-      none-through at (at + i) (at + (i + 1)) (f was.0) byte
-
-  -- a byte of the part from `at` to `at + n`
-  pub part_at : (at n k : ℕ) → k < n → get_or (part s at (at + n)) k 0 ≡ get_or s (at + k) 0
-  part_at at n k h = get_or-take (at + n - at) (drop at s) k 0 (omega arith) ∙ get_or-drop at s k 0
+      none-through i (i + 1) (f was.0) (λ k l u n.
+      let i-is-k : i ≡ k = omega arith in
+      eqb-false b newline was.1 (e ∙ ap (λ (j : ℕ). get_or s j 0) i-is-k ∙ n))
 
   -- none among digits alone
-  none-of-digits : (at n : ℕ) → at + n ≤ length s → all_digits (part s at (at + n)) ≡ true → NoNewline s at (at + n)
-  none-of-digits at n h d k l u e =
-      let digit = digits-each (part s at (at + n)) (k - at) (omega (arith, part_length s at n h)) d in
-      let k-is : at + (k - at) ≡ k = omega arith in
-      let byte = part_at at n (k - at) (omega arith) ∙ ap (λ (j : ℕ). get_or s j 0) k-is ∙ e in
-      omega (arith, digit-from (get_or (part s at (at + n)) (k - at) 0) digit)
+  none-of-digits : (n : ℕ) → n ≤ length s → all_digits (take n s) ≡ true → NoNewline s n
+  none-of-digits n h d k u e =
+      let digit = digits-each (take n s) k (omega (arith, length-take-le n s h)) d in
+      let byte = get_or-take n s k 0 u ∙ e in
+      omega (arith, digit-from (get_or (take n s) k 0) digit)
 
   -- ---- the place that is reached, and the line's end
 
   -- no byte is passed yet
-  pub begun : (at : ℕ) → at ≤ length s → Passes s at at
-  begun at h = record { from = omega arith; within = h; before = λ k l u. absurd (omega arith) }
+  pub begun : Passes s 0
+  begun = record { within = omega arith; before = λ k u. absurd (omega arith) }
 
   -- bytes with no newline are passed
-  pub further : {at p : ℕ} (q : ℕ) → p ≤ q → q ≤ length s → NoNewline s p q → Passes s at p → Passes s at q
-  further {at} {p} q h l f t = record { from = omega arith; within = l; before = none-through at p q t.before f }
-
-  -- one such byte is passed
-  pub further-one : {at p : ℕ} → p < length s → get_or s p 0 ≢ newline → Passes s at p → Passes s at (p + 1)
-  further-one {p = p} h n = further (p + 1) (omega arith) (omega arith) (none-at p (p + 1) (omega arith) n)
+  further : {n : ℕ} (m : ℕ) → m ≤ length s → ((k : ℕ) → n ≤ k → k < m → get_or s k 0 ≢ newline) → Passes s n → Passes s m
+  further {n} m l f t = record { within = l; before = none-through n m t.before f }
 
   -- digits alone as far as a newline are a line
-  pub line-of-digits : (at n : ℕ) → at + n < length s → get_or s (at + n) 0 ≡ newline → all_digits (part s at (at + n)) ≡ true → EndsAt s at (at + n)
-  line-of-digits at n h e d =
-      let none = none-of-digits at n (omega arith) d in
-      record { passes = further (at + n) (omega arith) (omega arith) none (begun at (omega arith)); ends = λ l. e }
+  pub line-of-digits : (n : ℕ) → n < length s → get_or s n 0 ≡ newline → all_digits (take n s) ≡ true → EndsAt s n
+  line-of-digits n h e d = record { passes = record { within = omega arith; before = none-of-digits n (omega arith) d }; ends = λ l. e }
 
 -- the first newline from i on, found in the rest of s
 found : (xs : List ℕ) (b : Bool) → b ≡ nat_lt (position_or_len (λ x. x == newline) xs) (length xs)
@@ -85,24 +67,44 @@ found xs false e =
     let n = ltb-false (position_or_len (λ (x : ℕ). x == newline) xs) (length xs) (sym e) in
     omega (arith, prefix_len-le-length (λ (x : ℕ). not (x == newline)) xs)
 
-pub newline-at : (s : List ℕ) {at i : ℕ} {rest : List ℕ} → Passes s at i → rest ≡ drop i s
+pub newline-at : (s : List ℕ) {i : ℕ} {rest : List ℕ} → Passes s i → rest ≡ drop i s
     → (unwrap_or (position (λ b. b == newline) rest) (length s - i) ≤ length s - i)
-    × EndsAt s at (i + unwrap_or (position (λ b. b == newline) rest) (length s - i))
-newline-at s {at} {i} {rest} p e =
+    × EndsAt s (i + unwrap_or (position (λ b. b == newline) rest) (length s - i))
+newline-at s {i} {rest} p e =
     let n : ℕ = position_or_len (λ (b : ℕ). b == newline) rest in
     let l : length rest ≡ length s - i = ap (λ (z : List ℕ). length z) e ∙ length-drop i s in
     let within : n ≤ length rest = prefix_len-le-length (λ (x : ℕ). not (x == newline)) rest in
     let byte : (k : ℕ) → get_or rest k 0 ≡ get_or s (i + k) 0 = λ k. ap (λ (z : List ℕ). get_or z k 0) e ∙ get_or-drop i s k 0 in
-    let none : NoNewline s i (i + n) = λ k u w h.
+    let none : (k : ℕ) → i ≤ k → k < i + n → get_or s k 0 ≢ newline = λ k u w h.
     let j : i + (k - i) ≡ k = omega arith in
     let f = fails_before_first (λ (b : ℕ). b == newline) rest (k - i) 0 (omega arith) in
     eqb-false (get_or rest (k - i) 0) newline f (byte (k - i) ∙ ap (λ (x : ℕ). get_or s x 0) j ∙ h) in
     rw (← l, found rest (nat_lt n (length rest)) refl) (
       within,
       record {
-        passes = further s (i + n) (omega arith) (omega (arith, p.within)) none p;
+        passes = further s (i + n) (omega (arith, p.within)) none p;
         ends = λ w. sym (byte n) ∙ eqb-true (get_or rest n 0) newline (passes_at_first (λ (b : ℕ). b == newline) rest 0 (omega arith));
       },
+    )
+
+-- the bytes from i on, as a slice takes them
+pub to-end : (s : List ℕ) (i : ℕ) → take (length s - i) (drop i s) ≡ drop i s
+to-end s i = take_all (length s - i) (drop i s) (omega (arith, length-drop i s))
+
+-- a block with no newline passed
+pub block-passed : (s : List ℕ) {i n : ℕ} {rest : List ℕ} (block : List ℕ) {rest' : List ℕ} → Passes s i → rest ≡ drop i s → rest ≡ block ++ rest' → length block ≡ n
+    → NoNewline block (length block) → Passes s (i + n) × (rest' ≡ drop (i + n) s)
+block-passed s {i} {n} {rest} block {rest'} p e q l f =
+    let d : drop i s ≡ block ++ rest' = sym e ∙ q in
+    let m : length s - i ≡ length block + length rest' = sym (length-drop i s) ∙ ap (λ (z : List ℕ). length z) d ∙ length-append block rest' in
+    let none : (k : ℕ) → i ≤ k → k < i + n → get_or s k 0 ≢ newline = λ k u w h.
+    let j : i + (k - i) ≡ k = omega arith in
+    let b : k - i < length block = omega arith in
+    f (k - i) b (sym (get_or-append block rest' 0 (k - i) b) ∙ sym (ap (λ (z : List ℕ). get_or z (k - i) 0) d) ∙ get_or-drop i s (k - i) 0
+    ∙ ap (λ (x : ℕ). get_or s x 0) j ∙ h) in
+    (
+      further s (i + n) (omega (arith, p.within)) none p,
+      sym (sym (drop-drop n i s) ∙ ap (λ (z : List ℕ). drop n z) d ∙ rw (← l) (drop-append_seam block rest')),
     )
 
 -- ---- what is kept

@@ -12,7 +12,7 @@ use native.Mathlib.Omega.{arith}
 use borrow.Author.Tests.{ne_eqb, lt-ltb, le-ltb}
 use lib.Dec.{ltb}
 use lib.ListN.{length, take, drop, set, get_or, length-drop, take-append-drop}
-use lib.Seq.{take_all, take-suc, take-add, drop-cons, drop-drop, length-take-le, get_or-take, get_or-drop, append_snoc}
+use lib.Seq.{take-suc, take-add, drop-cons, drop-drop, length-take-le, get_or-take, append_snoc}
 use Rattle.plain.specs.Board.{Plain}
 use Rattle.hex_digits.specs.Write.{Put, Wrote}
 use Rattle.hex_digits.proofs.Write.{then, as-length, put-wrote, wrote-byte, wrote_nothing}
@@ -25,10 +25,10 @@ use Rattle.wire.specs.Frame.{frame_of}
 use Rattle.wire.specs.Reply.{reply_digits}
 use Rattle.sessions.specs.Session.{reply_of, next, plain_of, Stepping}
 use Rattle.frames.specs.Whole.{newline, reply_line}
-use Rattle.frames.specs.Line.{kept, least, part, Passes}
+use Rattle.frames.specs.Line.{kept, least, Passes}
 use Rattle.frames.specs.Stream.{room, Model, stepped, answered, fed_state, fed_text, last_text, end_text, used_of, view, last_in, Written, Finishing}
 use Rattle.frames.specs.Turn.{PutReplyLine}
-use Rattle.frames.proofs.Pieces.{split, state-append, text-append, added-cut, frame-cut}
+use Rattle.frames.proofs.Pieces.{state-append, text-append, added-cut, frame-cut}
 use Rattle.wire.proofs.Sizes.{reply-short}
 
 -- ---- bytes that are no newline, and a newline
@@ -67,15 +67,11 @@ newline-used : (m : Model) (left : ℕ) (rest : List ℕ) → room ≤ left
 unfolding used_of
 newline-used m left rest h = simp (le-ltb left room h)
 
--- the bytes up to a later place
-module _ (xs : List ℕ) {i e : ℕ} (w : Passes xs i e) where
-  upto : take e xs ≡ take i xs ++ part xs i e
-  upto = let n : i + (e - i) ≡ e = omega (arith, w.from) in ap (λ (k : ℕ). take k xs) (sym n) ∙ take-add i (e - i) xs
-
-  clear : (k : ℕ) → k < length (part xs i e) → get_or (part xs i e) k 0 ≢ newline
-  clear k l =
-      let n : k < e - i = omega (arith, length-take-le (e - i) (drop i xs) (rw (length-drop i xs) (omega (arith, w.within)))) in
-      rw (get_or-take (e - i) (drop i xs) k 0 n, get_or-drop i xs k 0) (w.before (i + k) (omega arith) (omega arith))
+-- the bytes of a list that pass
+clear : (l : List ℕ) (n : ℕ) → Passes l n → (k : ℕ) → k < length (take n l) → get_or (take n l) k 0 ≢ newline
+clear l n w k u =
+    let h : k < n = omega (arith, length-take-le n l w.within) in
+    rw (get_or-take n l k 0 h) (w.before k h)
 
 -- what holds where a line or a part of one has been passed: the state and the text are those of the bytes passed, and all of them are used
 pub record Passed (m : Model) (xs page₀ page : List ℕ) (session : Session) (line : List ℕ) (at i : ℕ) : Type 0 where
@@ -88,29 +84,23 @@ pub record Passed (m : Model) (xs page₀ page : List ℕ) (session : Session) (
 written-by : {t u page out : List ℕ} {at : ℕ} → t ≡ u → Written t page out at → Written u page out at
 written-by {page = page} {out} {at} e w = subst (λ (l : List ℕ). Written l page out at) e w
 
--- the bytes from a place on are those as far as a later one, and the rest
-rest_from : (xs : List ℕ) {i e : ℕ} → i ≤ e → drop i xs ≡ part xs i e ++ drop e xs
-rest_from xs {i} {e} h =
-    let n : i + (e - i) ≡ e = omega arith in
-    sym (ap (λ (k : ℕ). part xs i e ++ drop k xs) (sym n) ∙ ap (λ (l : List ℕ). part xs i e ++ l) (sym (drop-drop (e - i) i xs)) ∙ take-append-drop (e - i) (drop i xs))
-
 -- bytes without a newline passed
-pub passed-bytes : {m : Model} {xs page₀ page line : List ℕ} {s : Session} {at i e : ℕ} → Passed m xs page₀ page s line at i → Passes xs i e
-    → Passed m xs page₀ page s (line ++ part xs i e) at e
-passed-bytes {m} {xs} {page₀} {page} {line} {s} {at} {i} {e} v w =
-    let u = upto xs w in
-    let c = clear xs w in
-    let n : length (part xs i e) ≡ e - i = length-take-le (e - i) (drop i xs) (rw (length-drop i xs) (omega (arith, w.within))) in
+pub passed-bytes : {m : Model} {xs page₀ page line : List ℕ} {s : Session} {at i n : ℕ} → Passed m xs page₀ page s line at i → Passes (drop i xs) n
+    → Passed m xs page₀ page s (line ++ take n (drop i xs)) at (i + n)
+passed-bytes {m} {xs} {page₀} {page} {line} {s} {at} {i} {n} v w =
+    let p : List ℕ = take n (drop i xs) in
+    let u : take (i + n) xs ≡ take i xs ++ p = take-add i n xs in
+    let c = clear (drop i xs) n w in
+    let l : length p ≡ n = length-take-le n (drop i xs) w.within in
+    let rest : drop i xs ≡ p ++ drop (i + n) xs =
+    sym (ap (λ (l : List ℕ). p ++ l) (sym (drop-drop n i xs)) ∙ take-append-drop n (drop i xs)) in
     record {
-      within = w.within;
-      state = sym (rw u (state-append m (take i xs) (part xs i e) ∙ rw (← v.state) (bytes-state (plain_of s) line (part xs i e) c)));
-      wrote =
-          written-by
-          (sym (rw u (text-append m (take i xs) (part xs i e) ∙ rw (← v.state, bytes-text (plain_of s) line (part xs i e) c) (append-nil _))))
-          v.wrote;
+      within = omega (arith, w.within, v.within, length-drop i xs);
+      state = sym (rw u (state-append m (take i xs) p ∙ rw (← v.state) (bytes-state (plain_of s) line p c)));
+      wrote = written-by (sym (rw u (text-append m (take i xs) p ∙ rw (← v.state, bytes-text (plain_of s) line p c) (append-nil _)))) v.wrote;
       uses =
-          v.uses ∙ ap (λ (d : List ℕ). i + used_of (record { board = plain_of s; part = take kept line }) (length page₀ - at) d) (rest_from xs w.from)
-          ∙ ap (λ (k : ℕ). i + k) (bytes-used (plain_of s) line (part xs i e) (drop e xs) (length page₀ - at) c) ∙ omega (arith, n, w.from);
+          v.uses ∙ ap (λ (d : List ℕ). i + used_of (record { board = plain_of s; part = take kept line }) (length page₀ - at) d) rest
+          ∙ ap (λ (k : ℕ). i + k) (bytes-used (plain_of s) line p (drop (i + n) xs) (length page₀ - at) c) ∙ omega (arith, l);
     }
 
 -- ---- what is kept of a line

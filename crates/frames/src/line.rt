@@ -23,28 +23,26 @@ pub struct LineSpan {
     pub digits: bool,
 }
 
-// Is there a newline among a block of s from at on?
-fn holds(s: &[u8], at: usize) -> bool
-    requires { at + 16 ≤ length s.now }
-    ensures { spec.Holds s.now at 16 result }
+// Is there a newline among a block?
+fn holds(block: &[u8]) -> bool
+    ensures { spec.Holds block.now (length block.now) result }
 {
     // No early return: the compiler then tests a whole block at once.
     let mut met = false;
-    for b in &s[at..at + BLOCK] {
+    for b in block {
         met |= *b == NEWLINE;
     }
     met
 }
 
-// The place past the blocks of s from at on that hold no newline.
-fn skip(s: &[u8], at: usize) -> usize
-    requires { at ≤ length s.now }
-    ensures { spec.Passes s.now at result }
+// The place past the first blocks of s, those that hold no newline.
+fn skip(s: &[u8]) -> usize
+    ensures { spec.Passes s.now result }
 {
-    let mut i = at;
-    while s.len() - i >= BLOCK {
-        if holds(s, i) {
-            return i;
+    let mut i = 0;
+    for block in s.chunks_exact(BLOCK) {
+        if holds(block) {
+            break;
         }
         i += BLOCK;
     }
@@ -58,45 +56,41 @@ fn newline_in(part: &[u8]) -> Option<usize>
     part.iter().position(|b| *b == NEWLINE)
 }
 
-// The place of the first newline of s from at on, or the end of s.
-pub(crate) fn end_of_line(s: &[u8], at: usize) -> usize
-    requires { at ≤ length s.now }
-    ensures { spec.EndsAt s.now at result }
+// The place of the first newline of s, or its end.
+pub(crate) fn end_of_line(s: &[u8]) -> usize
+    ensures { spec.EndsAt s.now result }
 {
-    let i = skip(s, at);
+    let i = skip(s);
     i + newline_in(&s[i..]).unwrap_or(s.len() - i)
 }
 
-// The length that a line of s from at on has if it is a frame, by the second digit of its kind. What it says is tested.
-fn likely_length(s: &[u8], at: usize) -> usize
-    requires { at ≤ length s.now }
-{
-    match s[at..].get(1) {
+// The length that the first line of s has if it is a frame, by the second digit of its kind. What it says is tested.
+fn likely_length(s: &[u8]) -> usize {
+    match s.get(1) {
         Some(digit) => Kind::of_number(digit.wrapping_sub(b'0') as u64).map_or(0, Kind::digits),
         None => 0,
     }
 }
 
-// The line of s from at on. Digits alone as far as a newline need no search for it.
-pub(crate) fn line_at(s: &[u8], at: usize) -> LineSpan
-    requires { at ≤ length s.now }
-    ensures { spec.SpansLine s.now at result }
+// The first line of s. Digits alone as far as a newline need no search for it.
+pub(crate) fn line_at(s: &[u8]) -> LineSpan
+    ensures { spec.SpansLine s.now result }
 {
-    let n = likely_length(s, at);
-    if n < s.len() - at {
-        if s[at + n] == NEWLINE {
-            if hex_digits::all_digits(&s[at..at + n]) {
+    let n = likely_length(s);
+    if n < s.len() {
+        if s[n] == NEWLINE {
+            if hex_digits::all_digits(&s[..n]) {
                 return LineSpan {
-                    end: at + n,
+                    end: n,
                     digits: true,
                 };
             }
         }
     }
-    let end = end_of_line(s, at);
+    let end = end_of_line(s);
     LineSpan {
         end,
-        digits: hex_digits::all_digits(&s[at..end]),
+        digits: hex_digits::all_digits(&s[..end]),
     }
 }
 

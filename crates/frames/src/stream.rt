@@ -105,7 +105,7 @@ fn session_of(setting: Option<Setting>, entries: [Target; MOST_TARGETS]) -> Sess
 fn waits(end: usize, length: usize, left: usize) -> bool
     ensures { result ≡ turn.waits end length left }
 {
-    if end < length { left < ROOM } else { true }
+    end >= length || left < ROOM
 }
 
 // Goes on with a line that has begun: answers it where it ends in the piece and any reply fits the page.
@@ -115,7 +115,7 @@ fn go_on(s: Stream, xs: &[u8], page: &mut [u8]) -> Fed
     let session = s.session;
     let begun = s.line;
     let n = s.n.min(KEPT);
-    let end = end_of_line(xs, 0);
+    let end = end_of_line(xs);
     let part = &xs[..end];
     let line = joined(begun, n, part);
     let m = kept_of(n, end);
@@ -154,13 +154,15 @@ fn lines(s: Stream, xs: &[u8], page: &mut [u8]) -> Fed
     let mut ids = start.ids;
     let mut at = 0;
     let mut i = 0;
+    // A line's length is known once it is met, so no range and no iterator over xs gives the places where lines begin.
     while i < xs.len() {
-        let span = line_at(xs, i);
+        let rest = &xs[i..];
+        let span = line_at(rest);
         let end = span.end;
-        if waits(end, xs.len(), page.len() - at) {
+        if waits(end, rest.len(), page.len() - at) {
             break;
         }
-        let frame = read_known(&xs[i..end], span.digits);
+        let frame = read_known(&rest[..end], span.digits);
         let reply = match look(setting, &ids[..], frame) {
             Some(Quick::Stays(reply)) => reply,
             Some(Quick::Puts(kind, p, target)) => {
@@ -182,17 +184,18 @@ fn lines(s: Stream, xs: &[u8], page: &mut [u8]) -> Fed
             }
         };
         at = put_reply_line(page, at, reply);
-        i = end + 1;
+        i += end + 1;
     }
-    let end = end_of_line(xs, i);
-    let line = joined(s.line, 0, &xs[i..end]);
+    let rest = &xs[i..];
+    let end = end_of_line(rest);
+    let line = joined(s.line, 0, &rest[..end]);
     Fed {
         stream: Stream {
             session: session_of(setting, entries),
             line,
-            n: kept_of(0, end - i),
+            n: kept_of(0, end),
         },
-        used: end,
+        used: i + end,
         next: at,
     }
 }

@@ -3,4 +3,4 @@ use Rattle.frames.specs.Line.{Holds}
 use Rattle.frames.proofs.line.holds.Given as goal
 
 abbrev pub invariant-loop-b : goal.invariant-loop-b
-invariant-loop-b l = Holds l.s l.at l.b-index l.met
+invariant-loop-b l = Holds l.block l.b-index l.met
