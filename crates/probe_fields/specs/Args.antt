@@ -1,5 +1,5 @@
 -- What the fields of a call are read as, from the place of the next on. Definitions only.
-use Rattle.std.specs.Prelude.{ℕ, ◌+◌, ◌-◌, ◌^◌, min, Float, from_bits}
+use Rattle.std.specs.Prelude.{ℕ, ◌+◌, ◌-◌, ◌/◌, ◌^◌, Float, from_bits, length, min}
 use Rattle.std.specs.Float.{binary64}
 use Rattle.unhex.specs.Digits.{lows_in}
 use Rattle.jord.specs.Angle as angles
@@ -22,9 +22,21 @@ use Rattle.probe_fields.specs.declared.args.Args.{Args}
 abbrev pub on : ℕ → ℕ → ℕ
 on at n = min (at + n) (2 ^ 64 - 1)
 
--- past the next field: a space and 16 digits
+-- the digits of a field
+abbrev pub digits : ℕ
+digits = 16
+
+-- the bytes of a field: a space, and its digits
+abbrev pub field : ℕ
+field = 1 + digits
+
+-- how many fields there are from the place on
+abbrev pub left : Args → ℕ
+left a = (length a.fields.now - a.at) / field
+
+-- past the next field
 unfoldable pub pass : Args → Args
-pass a = record a { at = on a.at 17 }
+pass a = record a { at = on a.at field }
 
 -- past three fields
 abbrev pub pass3 : Args → Args
@@ -32,7 +44,7 @@ pass3 a = pass (pass (pass a))
 
 -- the number of the next field's digits
 unfoldable pub whole : Args → ℕ
-whole a = lows_in a.fields.now (on a.at 1) 16
+whole a = lows_in a.fields.now (on a.at 1) digits
 
 -- the float whose bits the next field tells
 unfoldable pub float : Args → Float

@@ -1,5 +1,5 @@
 // The arguments of a call, read one after another from the digits of its line.
-ghost use Rattle.std.specs.Prelude.{◌≡◌, ◌==◌, ◌-◌, ◌/◌, length};
+ghost use Rattle.std.specs.Prelude.{◌≡◌, ◌==◌, length};
 ghost use Rattle.probe_fields.specs.Args as spec;
 
 use jord::angle::Angle;
@@ -43,7 +43,7 @@ impl<'a> Args<'a> {
 
     // How many arguments are left.
     pub fn left(&self) -> usize
-        ensures { result ≡ (length self.now.fields.now - self.now.at) / 17 }
+        ensures { result ≡ spec.left self.now }
     {
         self.fields.len().saturating_sub(self.at) / FIELD
     }
