@@ -4,7 +4,7 @@ use Rattle.probe_fields.proofs.args.Args.whole.Goals as goal
 
 pub returns-clause-value : goal.returns-clause-value
 unfolding whole
-returns-clause-value c = rw c.saturating_add-digits.ensures at c.sixteen_at.ensures.value
+returns-clause-value c = cc
 
 pub returns-clause-place : goal.returns-clause-place
 unfolding pass
