@@ -101,8 +101,7 @@ block-passed s {i} {n} {rest} block {rest'} p e q l f =
     let j : i + (k - i) ≡ k = omega arith in
     let b : k - i < length block = omega arith in
     f (k - i) b (sym (get_or-append block rest' 0 (k - i) b) ∙ sym (ap (λ (z : List ℕ). get_or z (k - i) 0) d) ∙ get_or-drop i s (k - i) 0
-    ∙ ap (λ (x : ℕ). get_or s x 0) j ∙ h) in
-    (
+    ∙ ap (λ (x : ℕ). get_or s x 0) j ∙ h) in (
       further s (i + n) (omega (arith, p.within)) none p,
       sym (sym (drop-drop n i s) ∙ ap (λ (z : List ℕ). drop n z) d ∙ rw (← l) (drop-append_seam block rest')),
     )

@@ -10,6 +10,8 @@ mod floats;
 mod numbers;
 pub mod page;
 
+// Number, arguments and page are lent one by one, here and above: each arm reads from the one and writes to the other, and would take a struct of the three apart.
+
 // Is f a function of these? Then its result is put on the page. It takes its arguments, whether or not the line has as many.
 pub fn answer(f: u64, args: &mut Args, page: &mut Page) -> bool {
     floats::answer(f, args, page)
