@@ -62,7 +62,7 @@ pub struct Chase {
     pub v10c2: f64,
 }
 
-// A duration, or why there is none. A count is the steps begun.
+// A duration, or why there is none. A count is the steps begun. No `Result`: document 01 names this form, an outcome enum with data.
 #[derive(Clone, Copy)]
 pub enum Outcome {
     Found { nanoseconds: u64, count: u32 },

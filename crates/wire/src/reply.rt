@@ -52,6 +52,7 @@ pub enum Reply {
     Mean(Vec3),
     Pick(u16),
     Total(u32),
+    // `ff01`: document 01 has it as a reply like the others, so no `Option` of a reply.
     NotAFrame,
 }
 
