@@ -17,6 +17,8 @@ use Rattle.plain.specs.Board.{Plain}
 use Rattle.hex_digits.specs.Write.{Put, Wrote}
 use Rattle.hex_digits.proofs.Write.{then, as-length, put-wrote, wrote-byte, wrote_nothing}
 use Rattle.wire.specs.declared.frame.Frame.{Frame}
+use Rattle.wire.specs.declared.kind.Kind.{Kind}
+use Rattle.wire.specs.declared.reply.Reason.{Reason}
 use Rattle.wire.specs.declared.reply.Reply.{Reply}
 use Rattle.sessions.specs.declared.session.Session.{Session}
 use Rattle.sessions.specs.declared.session.Stepped.{Stepped}
@@ -120,22 +122,22 @@ begun-text o (x ∷ line) (suc n) h l = refl
 
 -- ---- a reply and its newline
 
-pub put-room : {page out : List ℕ} {at n : ℕ} (y : Reply) → Put page at (reply_digits y) out n → at + room ≤ length page
+pub put-room : {page out : List ℕ} {at n : ℕ} (y : Reply Kind Reason) → Put page at (reply_digits y) out n → at + room ≤ length page
     → Wrote page at (length (reply_digits y)) (reply_digits y) out n
 put-room y w h = put-wrote w refl (omega (arith, reply-short y))
 
-pub put-below : {page out : List ℕ} {at n : ℕ} (y : Reply) → Put page at (reply_digits y) out n → at + room ≤ length page → n < length out
+pub put-below : {page out : List ℕ} {at n : ℕ} (y : Reply Kind Reason) → Put page at (reply_digits y) out n → at + room ≤ length page → n < length out
 put-below y w h = let v = put-room y w h in omega (arith, v.past, v.length_is, reply-short y)
 
-pub put-reply-line : {page mid : List ℕ} {at n : ℕ} (y : Reply) → Put page at (reply_digits y) mid n → at + room ≤ length page
+pub put-reply-line : {page mid : List ℕ} {at n : ℕ} (y : Reply Kind Reason) → Put page at (reply_digits y) mid n → at + room ≤ length page
     → PutReplyLine y page at (set mid n newline) (n + 1)
 put-reply-line {page} {mid} {at} {n} y w h = as-length (then (put-room y w h) (wrote-byte mid n newline (put-below y w h))) refl
 
 -- the reply that a step gives
-reply-written : (o : Option Plain) (f : Option Frame) {y : Reply} {page out : List ℕ} {at n : ℕ} → y ≡ reply_of o f → PutReplyLine y page at out n
+reply-written : (o : Option Plain) (f : Option Frame) {y : Reply Kind Reason} {page out : List ℕ} {at n : ℕ} → y ≡ reply_of o f → PutReplyLine y page at out n
     → Wrote page at (length (reply_line o f)) (reply_line o f) out n
 unfolding reply_line
-reply-written o f {y} {page} {out} {at} {n} e w = subst (λ (y : Reply). PutReplyLine y page at out n) e w
+reply-written o f {y} {page} {out} {at} {n} e w = subst (λ (y : Reply Kind Reason). PutReplyLine y page at out n) e w
 
 -- a newline passed: the frame of its line answered where any reply fits
 module _ {m : Model} {xs page₀ page line : List ℕ} {s : Session} {at i : ℕ} (v : Passed m xs page₀ page s line at i) (h : i < length xs)
@@ -168,7 +170,7 @@ module _ {m : Model} {xs page₀ page line : List ℕ} {s : Session} {at i : ℕ
             (omega arith);
       }
 
-  pub passed-step : {out : List ℕ} {next' : ℕ} {y : Reply} {r : Stepped} → Stepping s f r → y ≡ r.reply → PutReplyLine y page at out next'
+  pub passed-step : {out : List ℕ} {next' : ℕ} {y : Reply Kind Reason} {r : Stepped} → Stepping s f r → y ≡ r.reply → PutReplyLine y page at out next'
       → Passed m xs page₀ out r.session [] next' (i + 1)
   passed-step {r = r} st e w = line-passed r.session st.session_is (reply-written (plain_of s) f (e ∙ st.reply_is) w)
 

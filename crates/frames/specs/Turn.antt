@@ -2,6 +2,8 @@
 use Rattle.std.specs.Prelude.{ℕ, ◌+◌, ◌-◌, ◌≤◌, Bool, true, cond, List, [], ◌∷◌, ◌++◌, ◌≢◌, ◌≡◌, ltb, length, take, drop}
 use Rattle.hex_digits.specs.Write.{Wrote}
 use Rattle.plain.specs.Targets.{most_targets}
+use Rattle.wire.specs.declared.kind.Kind.{Kind}
+use Rattle.wire.specs.declared.reply.Reason.{Reason}
 use Rattle.wire.specs.declared.reply.Reply.{Reply}
 use Rattle.wire.specs.Reply.{reply_digits}
 use Rattle.sessions.specs.declared.session.Session.{Session}
@@ -17,7 +19,7 @@ unfoldable pub waits : ℕ → ℕ → ℕ → Bool
 waits e n left = cond (ltb e n) (ltb left room) true
 
 -- a reply and its newline, written over a page
-abbrev pub PutReplyLine : Reply → List ℕ → ℕ → List ℕ → ℕ → Type 0
+abbrev pub PutReplyLine : Reply Kind Reason → List ℕ → ℕ → List ℕ → ℕ → Type 0
 PutReplyLine y page at out next = Wrote page at (length (reply_digits y ++ (newline ∷ []))) (reply_digits y ++ (newline ∷ [])) out next
 
 -- a session in its parts, which are those of the session

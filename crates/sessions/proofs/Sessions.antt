@@ -13,6 +13,7 @@ use Rattle.wire.specs.declared.frame.Frame.{Frame}
 use Rattle.wire.specs.declared.frame.Frame.TheVariants as frame
 use Rattle.wire.specs.declared.kind.Kind.{Kind}
 use Rattle.wire.specs.declared.kind.Kind.TheVariants as kind
+use Rattle.wire.specs.declared.reply.Reason.{Reason}
 use Rattle.wire.specs.declared.reply.Reply.{Reply}
 use Rattle.wire.specs.declared.reply.Reply.TheVariants as reply
 use Rattle.sessions.specs.declared.session.Session.{Session}
@@ -30,7 +31,7 @@ closed s e = rw e
 abbrev Made : Float → Answered → Type 0
 Made r m = (m.answer ≡ begins r) × (plain m.board ≡ fresh r) × Demanded r m.board
 
-module _ {s : Session} {r : Float} {m : Answered} {y : Reply} where
+module _ {s : Session} {r : Float} {m : Answered} {y : Reply Kind Reason} where
   -- an accepted 00
   pub started : {l : Option Line} → y ≡ told kind.Fresh m.answer → Made r m → m.answer ≡ Ok l
       → Stepping s (Some (frame.Fresh r)) (record { session = record { board = Some m.board }; reply = y })
@@ -50,7 +51,7 @@ unfolding reply_of next if_started after_call
 not-heard s c e = let n = closed s e in record { reply_is = rw n; session_is = rw n }
 
 -- a call of a board
-pub heard : (s : Session) (c : Call) {b : Board} {r : Answered} {k : Kind} {y : Reply} → s.board ≡ Some b
+pub heard : (s : Session) (c : Call) {b : Board} {r : Answered} {k : Kind} {y : Reply Kind Reason} → s.board ≡ Some b
     → r.answer ≡ answer (plain b) c → plain r.board ≡ after (plain b) c → k ≡ kind_of c → y ≡ told k r.answer
     → Stepping s (Some (frame.Told c)) (record { session = record { board = Some r.board }; reply = y })
 unfolding reply_of next if_started after_call
@@ -62,7 +63,7 @@ heard s c {r = r} on a h k e =
     }
 
 -- a frame that leaves the session as it is
-pub asked : (s : Session) (g : Option Frame) {f : Option Frame} {y : Reply} → f ≡ g → y ≡ reply_of (plain_of s) g → plain_of s ≡ next (plain_of s) g
+pub asked : (s : Session) (g : Option Frame) {f : Option Frame} {y : Reply Kind Reason} → f ≡ g → y ≡ reply_of (plain_of s) g → plain_of s ≡ next (plain_of s) g
     → Stepping s f (record { session = s; reply = y })
 asked s g e h k = record { reply_is = h ∙ ap (reply_of (plain_of s)) (sym e); session_is = k ∙ ap (next (plain_of s)) (sym e) }
 

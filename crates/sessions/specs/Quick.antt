@@ -12,6 +12,7 @@ use Rattle.wire.specs.declared.frame.Frame.TheVariants as frame
 use Rattle.wire.specs.declared.kind.Kind.{Kind}
 use Rattle.sessions.specs.declared.quick.Quick.{Quick}
 use Rattle.sessions.specs.declared.quick.Quick.TheVariants.{Stays, Puts, Sweeps}
+use Rattle.wire.specs.declared.reply.Reason.{Reason}
 use Rattle.wire.specs.declared.reply.Reply.{Reply}
 use Rattle.wire.specs.declared.reply.Reply.TheVariants as reply
 use Rattle.sessions.specs.declared.session.Session.{Session}
@@ -43,7 +44,7 @@ Quickly o ids f None = Unit {0}
 -- ---- what is told of a frame
 
 -- the total, or number 1 where there is no board
-abbrev pub total_reply : Option Setting → Reply
+abbrev pub total_reply : Option Setting → Reply Kind Reason
 total_reply None = reply.NotAFrame
 total_reply (Some s) = reply.Total s.total
 

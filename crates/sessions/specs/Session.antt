@@ -13,6 +13,7 @@ use Rattle.wire.specs.declared.frame.Frame.{Frame}
 use Rattle.wire.specs.declared.frame.Frame.TheVariants as frame
 use Rattle.wire.specs.declared.kind.Kind.{Kind}
 use Rattle.wire.specs.declared.kind.Kind.TheVariants as kind
+use Rattle.wire.specs.declared.reply.Reason.{Reason}
 use Rattle.wire.specs.declared.reply.Reason.TheVariants as reason
 use Rattle.wire.specs.declared.reply.Reply.{Reply}
 use Rattle.wire.specs.declared.reply.Reply.TheVariants as reply
@@ -30,30 +31,30 @@ kind_of (Track s e) = kind.Track
 kind_of (Solve i) = kind.Solve
 
 -- "kind, number (00 done), then the answer"; "Refused: kind and number alone"
-unfoldable pub told : Kind → Answer → Reply
+unfoldable pub told : {K : Type 0} → K → Answer → Reply K Reason
 told k (Ok None) = reply.Done k
 told k (Ok (Some l)) = reply.Solved l
 told k (Err q) = reply.Refused k (reason.Refusal q)
 
 -- "06 three floats"
-unfoldable pub mean_told : Mean → Reply
+unfoldable pub mean_told : Mean → Reply Kind Reason
 mean_told (Ok p) = reply.Mean (as_vec3 p)
 mean_told (Err e) = reply.Refused kind.Mean (reason.NoMean e)
 
 -- "07 identity"
-unfoldable pub pick_told : Result ℕ Refusal → Reply
+unfoldable pub pick_told : Result ℕ Refusal → Reply Kind Reason
 pick_told (Ok i) = reply.Pick i
 pick_told (Err q) = reply.Refused kind.Pick (reason.Refusal q)
 
 -- ---- the reply of a session
 
 -- "has an accepted 00 come before it? 1": a board's reply, or number 1 where there is none
-unfoldable pub if_started : Option Plain → (Plain → Reply) → Reply
+unfoldable pub if_started : Option Plain → (Plain → Reply Kind Reason) → Reply Kind Reason
 if_started None f = reply.NotAFrame
 if_started (Some b) f = f b
 
 -- the reply to a frame
-unfoldable pub reply_of : Option Plain → Option Frame → Reply
+unfoldable pub reply_of : Option Plain → Option Frame → Reply Kind Reason
 reply_of o (Some (frame.Fresh r)) = told kind.Fresh (begins r)
 reply_of o (Some (frame.Told c)) = if_started o (λ b. told (kind_of c) (answer b c))
 reply_of o (Some frame.Mean) = if_started o (λ b. mean_told (mean b))

@@ -46,7 +46,7 @@ pub fn kind_of(call: Call) -> Kind
 }
 
 // The reply to a call of this kind, from the board's answer.
-pub fn told(kind: Kind, answer: Answer) -> Reply
+pub fn told<K: Copy>(kind: K, answer: Answer) -> Reply<K>
     ensures { result ≡ spec.told kind answer }
 {
     match answer {

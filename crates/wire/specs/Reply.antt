@@ -10,6 +10,7 @@ use Rattle.vectors.specs.declared.vec3.Vec3.{Vec3}
 use Rattle.walks.specs.Outcome as outcome
 use Rattle.arcs.specs.Side.{side_number}
 use Rattle.walks.specs.declared.Outcome.{Outcome}
+use Rattle.wire.specs.declared.kind.Kind.{Kind}
 use Rattle.wire.specs.Kind.{number_of}
 use Rattle.wire.specs.declared.reply.Reason.{Reason}
 use Rattle.wire.specs.declared.reply.Reason.TheVariants as reason
@@ -43,15 +44,20 @@ line_digits l =
 unfoldable pub position_digits : Vec3 → List ℕ
 position_digits p = float_digits p.x ++ float_digits p.y ++ float_digits p.z
 
--- "05 the line, 06 three floats, 07 identity, 08 eight digits. Refused: kind and number alone; number 1, from either cause: ff01"
-unfoldable pub reply_digits : Reply → List ℕ
-reply_digits (Done kind) = two (number_of kind) 0
-reply_digits (Refused kind why) = two (number_of kind) (reason_number why)
-reply_digits (Solved l) = two 5 0 ++ line_digits l
-reply_digits (Mean p) = two 6 0 ++ position_digits p
-reply_digits (Pick i) = two 7 0 ++ digits 4 i
-reply_digits (Total t) = two 8 0 ++ digits 8 t
-reply_digits NotAFrame = two 255 1
+-- "05 the line, 06 three floats, 07 identity, 08 eight digits. Refused: kind and number alone; number 1, from either cause: ff01",
+-- of any kinds and reasons by the byte that each stands for
+unfoldable pub digits_by : {K R : Type 0} → (K → ℕ) → (R → ℕ) → Reply K R → List ℕ
+digits_by k r (Done kind) = two (k kind) 0
+digits_by k r (Refused kind why) = two (k kind) (r why)
+digits_by k r (Solved l) = two 5 0 ++ line_digits l
+digits_by k r (Mean p) = two 6 0 ++ position_digits p
+digits_by k r (Pick i) = two 7 0 ++ digits 4 i
+digits_by k r (Total t) = two 8 0 ++ digits 8 t
+digits_by k r NotAFrame = two 255 1
+
+-- of document 01's kinds and reasons
+abbrev pub reply_digits : Reply Kind Reason → List ℕ
+reply_digits = digits_by number_of reason_number
 
 -- the digits of the longest reply, a line
 abbrev pub most_reply_digits : ℕ

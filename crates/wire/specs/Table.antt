@@ -11,7 +11,7 @@ use Rattle.plain.specs.declared.call.Refusal.TheVariants.{NoMeeting}
 use Rattle.wire.specs.declared.reply.Reason.TheVariants.{Refusal}
 use Rattle.wire.specs.declared.reply.Reply.TheVariants as reply
 use Rattle.wire.specs.Frame.{said, of_kind, frame_of}
-use Rattle.wire.specs.Reply.{float_digits, reply_digits}
+use Rattle.wire.specs.Reply.{float_digits, digits_by, reply_digits}
 
 -- 020008
 withdraw : frame_of (48 ∷ 50 ∷ 48 ∷ 48 ∷ 48 ∷ 56 ∷ []) ≡ Some (Told (Withdraw 8))
@@ -51,18 +51,23 @@ carriage = refl
 
 -- 0713: number 19
 refused : reply_digits (reply.Refused Pick (Refusal NoMeeting)) ≡ 48 ∷ 55 ∷ 49 ∷ 51 ∷ []
-unfolding reply_digits digits
+unfolding digits_by digits
 refused = refl
 
 -- 0800fffffffe
 total : reply_digits (reply.Total 0xffff_fffe) ≡ 48 ∷ 56 ∷ 48 ∷ 48 ∷ 102 ∷ 102 ∷ 102 ∷ 102 ∷ 102 ∷ 102 ∷ 102 ∷ 101 ∷ []
-unfolding reply_digits digits
+unfolding digits_by digits
 total = refl
 
 -- ff01
 no-frame : reply_digits reply.NotAFrame ≡ 102 ∷ 102 ∷ 48 ∷ 49 ∷ []
-unfolding reply_digits digits
+unfolding digits_by digits
 no-frame = refl
+
+-- c84d: a kind and a number that are none of document 01's
+any-bytes : digits_by (λ b. b) (λ b. b) (reply.Refused 200 77) ≡ 99 ∷ 56 ∷ 52 ∷ 100 ∷ []
+unfolding digits_by digits
+any-bytes = refl
 
 -- 7ff8000000000000
 not-a-number : float_digits nan ≡ 55 ∷ 102 ∷ 102 ∷ 56 ∷ 48 ∷ 48 ∷ 48 ∷ 48 ∷ 48 ∷ 48 ∷ 48 ∷ 48 ∷ 48 ∷ 48 ∷ 48 ∷ 48 ∷ []

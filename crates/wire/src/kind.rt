@@ -1,5 +1,5 @@
 // The kinds of frames, and of the replies to them.
-ghost use Rattle.std.specs.Prelude.{◌≡◌};
+ghost use Rattle.std.specs.Prelude.{ℕ, ◌≡◌};
 ghost use Rattle.wire.specs.Kind as spec;
 
 use crate::frame::{ASKED, FRESH, MOST_FRAME_DIGITS, NAMED, OWN_SHIP, REPORT};
@@ -16,6 +16,30 @@ pub enum Kind {
     Mean = 6,
     Pick = 7,
     Total = 8,
+}
+
+// What a byte of a reply stands for: a kind, a reason, or nothing but itself.
+pub trait Byte: Copy {
+    ghost byte: { Self → ℕ };
+
+    fn byte(self) -> u8
+        ensures { result ≡ byte self };
+}
+
+impl Byte for u8 {
+    ghost byte = { λ b. b };
+
+    fn byte(self) -> u8 {
+        self
+    }
+}
+
+impl Byte for Kind {
+    ghost byte = { spec.number_of };
+
+    fn byte(self) -> u8 {
+        self.number()
+    }
 }
 
 impl Kind {

@@ -5,7 +5,7 @@ ghost use Rattle.hex_digits.specs.Write.{Put, Wrote};
 ghost use Rattle.arcs.specs.Side.{side_number};
 ghost use Rattle.wire.specs.Reply as spec;
 
-use crate::kind::Kind;
+use crate::kind::{Byte, Kind};
 use arcs::Side;
 use means::NoMean;
 use plain::call::Refusal;
@@ -41,13 +41,21 @@ impl Reason {
     }
 }
 
-// A reply by value.
+impl Byte for Reason {
+    ghost byte = { spec.reason_number };
+
+    fn byte(self) -> u8 {
+        self.number()
+    }
+}
+
+// A reply by value: of a kind and a reason of document 01, or of what else has a byte.
 #[derive(Clone, Copy)]
-pub enum Reply {
+pub enum Reply<K = Kind, R = Reason> {
     // A kind that is done and hands out nothing.
-    Done(Kind),
+    Done(K),
     // A kind, and why it is refused.
-    Refused(Kind, Reason),
+    Refused(K, R),
     Solved(Line),
     Mean(Vec3),
     Pick(u16),
@@ -118,8 +126,8 @@ fn put_position(out: &mut [u8], at: usize, p: Vec3) -> usize
 }
 
 // How many digits a reply has.
-pub fn size(reply: Reply) -> usize
-    ensures { result ≡ length (spec.reply_digits reply) }
+pub fn size<K: Byte, R: Byte>(reply: Reply<K, R>) -> usize
+    ensures { result ≡ length (spec.digits_by K.byte R.byte reply) }
 {
     match reply {
         Reply::Done(_) => 4,
@@ -133,13 +141,13 @@ pub fn size(reply: Reply) -> usize
 }
 
 // Writes the digits of a reply over out from at on, and gives the place past them.
-fn write(out: &mut [u8], at: usize, reply: Reply) -> usize
-    requires { at + length (spec.reply_digits reply) ≤ length out.old }
-    ensures { Wrote out.old at (length (spec.reply_digits reply)) (spec.reply_digits reply) out.new result }
+fn write<K: Byte, R: Byte>(out: &mut [u8], at: usize, reply: Reply<K, R>) -> usize
+    requires { at + length (spec.digits_by K.byte R.byte reply) ≤ length out.old }
+    ensures { Wrote out.old at (length (spec.digits_by K.byte R.byte reply)) (spec.digits_by K.byte R.byte reply) out.new result }
 {
     match reply {
-        Reply::Done(kind) => put_two(out, at, kind.number(), 0),
-        Reply::Refused(kind, why) => put_two(out, at, kind.number(), why.number()),
+        Reply::Done(kind) => put_two(out, at, kind.byte(), 0),
+        Reply::Refused(kind, why) => put_two(out, at, kind.byte(), why.byte()),
         Reply::Solved(line) => {
             let next = put_two(out, at, Kind::Solve.number(), 0);
             put_line(out, next, line)
@@ -161,8 +169,8 @@ fn write(out: &mut [u8], at: usize, reply: Reply) -> usize
 }
 
 // The digits of a reply over out from at on, and the place past them; where they do not fit, nothing, and at.
-pub fn put(out: &mut [u8], at: usize, reply: Reply) -> usize
-    ensures { Put out.old at (spec.reply_digits reply) out.new result }
+pub fn put<K: Byte, R: Byte>(out: &mut [u8], at: usize, reply: Reply<K, R>) -> usize
+    ensures { Put out.old at (spec.digits_by K.byte R.byte reply) out.new result }
 {
     if at > out.len() || size(reply) > out.len() - at {
         return at;

@@ -3,6 +3,8 @@ use mathlib.Core.Path.{◌≡◌, refl, ap, ◌∙◌}
 use Rattle.std.proofs.Common.{rules}
 use Rattle.std.specs.Prelude.{Some, None}
 use Rattle.board.specs.declared.glance.Hint.{Hint}
+use Rattle.wire.specs.declared.kind.Kind.{Kind}
+use Rattle.wire.specs.declared.reply.Reason.{Reason}
 use Rattle.wire.specs.declared.reply.Reply.{Reply}
 use Rattle.sessions.specs.declared.quick.Quick.TheVariants.{Stays}
 use Rattle.sessions.specs.Quick.{hinted, at_call}
@@ -23,7 +25,7 @@ pub returns-in-Stays : goal.returns-in-Stays
 unfolding hinted
 returns-in-Stays c =
     let told = c.in_ok-hint.was ∙ ap (λ (h : Hint). Some h) c.in-Stays.is in
-    ap (λ (y : Reply). Some (Stays y)) c.told.ensures ∙ call-goes _ _ _ c.in-Some.is c.kind_of-kind.ensures c.glance.ensures.value told
+    ap (λ (y : Reply Kind Reason). Some (Stays y)) c.told.ensures ∙ call-goes _ _ _ c.in-Some.is c.kind_of-kind.ensures c.glance.ensures.value told
 
 pub returns-in-Puts : goal.returns-in-Puts
 unfolding hinted

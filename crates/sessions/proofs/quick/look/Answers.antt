@@ -3,6 +3,8 @@ use mathlib.Core.Path.{ap, ◌∙◌}
 use Rattle.std.specs.Prelude.{Some}
 use Rattle.sessions.specs.declared.quick.Quick.TheVariants.{Stays}
 use Rattle.sessions.specs.Quick.{look}
+use Rattle.wire.specs.declared.kind.Kind.{Kind}
+use Rattle.wire.specs.declared.reply.Reason.{Reason}
 use Rattle.wire.specs.declared.reply.Reply.{Reply}
 use Rattle.sessions.proofs.quick.look.Goals as goal
 
@@ -24,7 +26,7 @@ returns-in-Some-Pick-clause-value c = rw (c.in-Some-Pick.is, rw c.in-Some-Pick.i
 
 pub returns-in-Some-Total-clause-value : goal.returns-in-Some-Total-clause-value
 unfolding look
-returns-in-Some-Total-clause-value c = ap (λ (y : Reply). Some (Stays y)) c.total_reply.ensures ∙ rw (c.in-Some-Total.is, rw c.in-Some-Total.is at c.in-Some-Total.field-0-is)
+returns-in-Some-Total-clause-value c = ap (λ (y : Reply Kind Reason). Some (Stays y)) c.total_reply.ensures ∙ rw (c.in-Some-Total.is, rw c.in-Some-Total.is at c.in-Some-Total.field-0-is)
 
 pub returns-in-None-clause-value : goal.returns-in-None-clause-value
 unfolding look

@@ -1,7 +1,6 @@
 -- A line with as many digits as its kind says what the kind does.
 use Prim.Native.Nat.{ℕ}
 use mathlib.Core.List.{List}
-use mathlib.Core.Logic.{◌≢◌}
 use mathlib.Core.Path.{◌≡◌, sym, ◌∙◌, ap}
 use borrow.Author.Tests.{eq-eqb, ne_eqb}
 use lib.ListN.{length}
@@ -9,7 +8,6 @@ use Rattle.std.specs.Prelude.{Some}
 use Rattle.unhex.specs.Digits.{lows_in}
 use Rattle.wire.specs.declared.frame.Frame.{Frame}
 use Rattle.wire.specs.declared.kind.Kind.{Kind}
-use Rattle.wire.specs.declared.kind.Kind.TheVariants.{Fresh, Report, Withdraw, OwnShip, Track, Solve, Mean, Pick, Total}
 use Rattle.wire.specs.Frame.{said, of_kind}
 use Rattle.wire.specs.Kind.{digits_of}
 use Rattle.wire.proofs.frame.of_kind.Goals as goal

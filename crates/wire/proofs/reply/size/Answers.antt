@@ -4,22 +4,22 @@ use Rattle.wire.proofs.Sizes.{size_of, size_is}
 use Rattle.wire.proofs.reply.size.Goals as goal
 
 pub returns-in-Done : goal.returns-in-Done
-returns-in-Done c = sym (size_is _ ∙ ap size_of c.in-Done.is)
+returns-in-Done g c = sym (size_is _ _ _ ∙ ap size_of c.in-Done.is)
 
 pub returns-in-Refused : goal.returns-in-Refused
-returns-in-Refused c = sym (size_is _ ∙ ap size_of c.in-Refused.is)
+returns-in-Refused g c = sym (size_is _ _ _ ∙ ap size_of c.in-Refused.is)
 
 pub returns-in-Solved : goal.returns-in-Solved
-returns-in-Solved c = sym (size_is _ ∙ ap size_of c.in-Solved.is)
+returns-in-Solved g c = sym (size_is _ _ _ ∙ ap size_of c.in-Solved.is)
 
 pub returns-in-Mean : goal.returns-in-Mean
-returns-in-Mean c = sym (size_is _ ∙ ap size_of c.in-Mean.is)
+returns-in-Mean g c = sym (size_is _ _ _ ∙ ap size_of c.in-Mean.is)
 
 pub returns-in-Pick : goal.returns-in-Pick
-returns-in-Pick c = sym (size_is _ ∙ ap size_of c.in-Pick.is)
+returns-in-Pick g c = sym (size_is _ _ _ ∙ ap size_of c.in-Pick.is)
 
 pub returns-in-Total : goal.returns-in-Total
-returns-in-Total c = sym (size_is _ ∙ ap size_of c.in-Total.is)
+returns-in-Total g c = sym (size_is _ _ _ ∙ ap size_of c.in-Total.is)
 
 pub returns-in-NotAFrame : goal.returns-in-NotAFrame
-returns-in-NotAFrame c = sym (size_is _ ∙ ap size_of c.in-NotAFrame.is)
+returns-in-NotAFrame g c = sym (size_is _ _ _ ∙ ap size_of c.in-NotAFrame.is)
