@@ -12,7 +12,9 @@ use Rattle.means.proofs.run.contains.Goals as goal
 pub returns-then-among : goal.returns-then-among
 returns-then-among g c =
     let xs = g.R.Run.listed c.args.ps in
-    any_from_yields_List (λ i. eq (get_or xs i nowhere) c.args.a) _ _ _ c.any.ensures.ran (YieldsList-from_range _ _ (length xs) refl (omega (arith, c.len.ensures))) (λ x b q k. search rules)
+    any_from_yields_List (λ i. eq (get_or xs i nowhere) c.args.a) _ _ _ c.any.ensures.ran
+    (YieldsList-from_range _ _ (length xs) refl (omega (arith, c.len.ensures)))
+    (λ x b q k. search rules)
     ∙ any-by_index xs nowhere (λ p. eq p c.args.a)
 
 pub returns-else-among : goal.returns-else-among

@@ -11,5 +11,7 @@ use Rattle.means.proofs.run.contains_antipodal.Goals as goal
 pub returns : goal.returns
 returns g c =
     let xs = g.R.Run.listed c.args.ps in
-    any_from_yields_List (λ i. contains (antipode (get_or xs i nowhere)) xs) _ _ _ c.any.ensures.ran (YieldsList-from_range _ _ (length xs) refl (omega (arith, c.len.ensures))) (λ x b q k. search rules)
+    any_from_yields_List (λ i. contains (antipode (get_or xs i nowhere)) xs) _ _ _ c.any.ensures.ran
+    (YieldsList-from_range _ _ (length xs) refl (omega (arith, c.len.ensures)))
+    (λ x b q k. search rules)
     ∙ any-by_index xs nowhere (λ p. contains (antipode p) xs)

@@ -12,5 +12,7 @@ returns g c =
     let xs = g.R.Run.listed c.args.ps in
     c.new_unit.ensures
     ∙ ap along
-    (fold_from_yields_List _ (λ s i. plus s (get_or xs i nowhere)) _ _ c.fold-s.ensures.ran (YieldsList-from_range _ _ (length xs) refl (omega (arith, c.len.ensures))) (λ a x b q k. search rules)
+    (fold_from_yields_List _ (λ s i. plus s (get_or xs i nowhere)) _ _ c.fold-s.ensures.ran
+    (YieldsList-from_range _ _ (length xs) refl (omega (arith, c.len.ensures)))
+    (λ a x b q k. search rules)
     ∙ fold-by_index xs nowhere plus _)
