@@ -15,25 +15,16 @@ const TRIAGE_SIDE_EPS: f64 = 10.0 * EPSILON;
 pub fn angle_radians_between(v1: Vec3, v2: Vec3) -> f64
     ensures { result ≡ spec.angle_radians_between v1 v2 }
 {
-    let p1xp2 = v1.cross_prod(v2);
-    let norm = p1xp2.norm();
-    let cos_o = v1.dot_prod(v2);
-    atan2(norm, cos_o)
+    atan2(v1.cross_prod(v2).norm(), v1.dot_prod(v2))
 }
 
 // The same angle, negative where v1 to v2 is anti-clockwise looking along vn: the source's `angle_radians_between(v1, v2, Some(vn))`.
 pub fn angle_radians_about(v1: Vec3, v2: Vec3, vn: Vec3) -> f64
     ensures { result ≡ spec.angle_radians_about v1 v2 vn }
 {
-    let p1xp2 = v1.cross_prod(v2);
-    let norm = p1xp2.norm();
-    let d = p1xp2.dot_prod(vn);
-    let cos_o = v1.dot_prod(v2);
-    if d >= 0.0 {
-        atan2(norm, cos_o)
-    } else {
-        atan2(-norm, cos_o)
-    }
+    let angle = angle_radians_between(v1, v2);
+    let d = v1.cross_prod(v2).dot_prod(vn);
+    if d >= 0.0 { angle } else { -angle }
 }
 
 // The direction east at v; at a pole, the y axis.

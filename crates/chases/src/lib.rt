@@ -211,7 +211,7 @@ fn gone_at(k: Chase, t: f64) -> Gone
 }
 
 // The position on the course c from v0 at an angle of this sine and cosine.
-fn pos(v0: Vec3, c: Vec3, a: SinCos) -> Vec3
+pub fn pos(v0: Vec3, c: Vec3, a: SinCos) -> Vec3
     ensures { result ≡ shared.pos_by v0 c a }
 {
     v0.mul(a.cos).add(c.mul(a.sin))

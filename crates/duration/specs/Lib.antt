@@ -1,2 +1,3 @@
 pub mod Duration
 pub mod Table
+pub mod Numbers

@@ -4,9 +4,9 @@ ghost use Rattle.jord.specs.Angle as spec;
 
 use crate::numbers::EPSILON;
 use float::degrees::{to_degrees, to_radians};
-use float::trig::PI;
 use patterns::magnitude;
 use remainders::rem;
+use std::f64::consts::PI;
 
 // An angle; two are the same where their radians are: the source's `==`.
 #[derive(Clone, Copy, PartialEq)]

@@ -22,9 +22,7 @@ impl Length {
     pub const ZERO: Length = Length { metres: 0.0 };
 
     // The greatest finite length.
-    pub const MAX: Length = Length {
-        metres: 1.7976931348623157e308,
-    };
+    pub const MAX: Length = Length { metres: f64::MAX };
 
     // The length of so many metres.
     pub fn from_metres(metres: f64) -> Self

@@ -5,7 +5,7 @@ ghost use Rattle.jord.specs.Numbers as spec;
 use patterns::magnitude;
 
 // The step from 1.0 to the next float, 2^-52.
-pub const EPSILON: f64 = 2.220446049250313e-16;
+pub const EPSILON: f64 = f64::EPSILON;
 
 // Whether f is at most EPSILON in magnitude.
 pub fn eq_zero(f: f64) -> bool

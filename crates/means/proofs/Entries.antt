@@ -1,30 +1,37 @@
--- A search and a fold over a list from the i-th entry on, a step at a time. Assumes nothing.
-use mathlib.Core.Path.{◌≡◌, ap, ◌∙◌}
-use Prim.Native.Nat.{ℕ, suc, ◌+◌, ◌≤◌, ◌<◌}
+-- A search and a fold by the index of each entry are those over the list. Assumes nothing.
+use mathlib.Core.Path.{◌≡◌, refl, ap, ◌∙◌}
+use Prim.Native.Nat.{ℕ, suc, ◌+◌, ◌<◌}
 use native.Mathlib.Omega.{arith}
-use mathlib.Core.Bool.{Bool, true, false, ◌||◌}
-use mathlib.Core.List.{List, ◌∷◌}
-use lib.ListN.{length, drop, get_or, drop_of_length-le}
-use lib.Seq.{drop-cons}
-use Rattle.means.specs.Mean.{any, fold}
+use mathlib.Core.Bool.{Bool, ◌||◌}
+use mathlib.Core.List.{List, [], ◌∷◌, map}
+use lib.ListN.{length, get_or}
+use Rattle.std.specs.List.{list_any, fold, range_with_len}
 
-module _ {A : Type 0} (l : List A) (i : ℕ) (d : A) where
-  on : i < length l → drop i l ≡ get_or l i d ∷ drop (i + 1) l
-  on h = drop-cons l i d h ∙ ap (λ (k : ℕ). get_or l i d ∷ drop k l) (let e : suc i ≡ i + 1 = omega arith in e)
+-- the numbers from a on, each made an entry by g, are the list, where g gives its entries from a on
+entries_from : {A : Type 0} (g : ℕ → A) (d : A) (l : List A) (a : ℕ) → ((j : ℕ) → j < length l → g (a + j) ≡ get_or l j d) → map g (range_with_len a (length l)) ≡ l
+entries_from g d [] a h = refl
+entries_from g d (x ∷ l) a h =
+    let here : a ≡ a + 0 = omega arith in
+    let next : (j : ℕ) → a + 1 + j ≡ a + suc j = λ j. omega arith in
+    rw (
+      ap g here ∙ h 0 (omega arith),
+      entries_from g d l (a + 1) (λ j b. ap g (next j) ∙ h (suc j) (omega (arith, b))),
+    )
 
-  module _ (f : A → Bool) where
-    pub any_found : i < length l → f (get_or l i d) ≡ true → any f (drop i l) ≡ true
-    any_found h e = ap (any f) (on h) ∙ ap (λ (b : Bool). b || any f (drop (i + 1) l)) e
+any-map : {A B : Type 0} (g : A → B) (f : B → Bool) (l : List A) → list_any (λ i. f (g i)) l ≡ list_any f (map g l)
+any-map g f [] = refl
+any-map g f (x ∷ l) = ap (λ (b : Bool). f (g x) || b) (any-map g f l)
 
-    pub any-passed : i < length l → f (get_or l i d) ≡ false → any f (drop i l) ≡ any f (drop (i + 1) l)
-    any-passed h e = ap (any f) (on h) ∙ ap (λ (b : Bool). b || any f (drop (i + 1) l)) e
+fold-map : {A B C : Type 0} (g : A → B) (f : C → B → C) (c : C) (l : List A) → fold (λ s i. f s (g i)) c l ≡ fold f c (map g l)
+fold-map g f c [] = refl
+fold-map g f c (x ∷ l) = fold-map g f (f c (g x)) l
 
-  pub fold_on : {B : Type 0} (f : B → A → B) (b : B) → i < length l → fold f b (drop i l) ≡ fold f (f b (get_or l i d)) (drop (i + 1) l)
-  fold_on f b h = ap (fold f b) (on h)
+module _ {A : Type 0} (l : List A) (d : A) where
+  by_index : map (λ i. get_or l i d) (range_with_len 0 (length l)) ≡ l
+  by_index = entries_from (λ i. get_or l i d) d l 0 (λ j h. ap (λ (k : ℕ). get_or l k d) (let e : 0 + j ≡ j = omega arith in e))
 
-module _ {A : Type 0} (l : List A) (i : ℕ) where
-  pub any_out : (f : A → Bool) → length l ≤ i → any f (drop i l) ≡ false
-  any_out f h = ap (any f) (drop_of_length-le l {i = i} h)
+  pub any-by_index : (f : A → Bool) → list_any (λ i. f (get_or l i d)) (range_with_len 0 (length l)) ≡ list_any f l
+  any-by_index f = any-map (λ i. get_or l i d) f (range_with_len 0 (length l)) ∙ ap (list_any f) by_index
 
-  pub fold_out : {B : Type 0} (f : B → A → B) (b : B) → length l ≤ i → fold f b (drop i l) ≡ b
-  fold_out f b h = ap (fold f b) (drop_of_length-le l {i = i} h)
+  pub fold-by_index : {B : Type 0} (f : B → A → B) (b : B) → fold (λ s i. f s (get_or l i d)) b (range_with_len 0 (length l)) ≡ fold f b l
+  fold-by_index f b = fold-map (λ i. get_or l i d) f b (range_with_len 0 (length l)) ∙ ap (fold f b) by_index

@@ -1,5 +1,6 @@
 -- `mean_position` and `triangle_mean_position` of sphere.rs, over lists of positions, and the positions that coordinates stand for. Definitions only.
-use Rattle.std.specs.Prelude.{ℕ, Bool, false, cond, ◌||◌, List, [], ◌∷◌, Result, Ok, Err, Float}
+use Rattle.std.specs.Prelude.{ℕ, Bool, cond, ◌||◌, List, [], ◌∷◌, Result, Ok, Err, Float}
+use Rattle.std.specs.List.{list_any, fold}
 use Rattle.std.specs.Float.Ieee as Ieee
 use Rattle.patterns.specs.Operators.{◌⊕◌}
 use Rattle.vectors.specs.Vec3 as vec3
@@ -26,25 +27,15 @@ number_of (Err Antipodal) = 17
 abbrev pub nowhere : NVector
 nowhere = nvector_new vec3.ZERO
 
--- whether f says yes of an entry
-abbrev pub any : {A : Type 0} → (A → Bool) → List A → Bool
-any f [] = false
-any f (a ∷ l) = f a || any f l
-
--- b, and then f with each entry in the order of the list
-abbrev pub fold : {A B : Type 0} → (B → A → B) → B → List A → B
-fold f b [] = b
-fold f b (a ∷ l) = fold f (f b a) l
-
 -- ---- the mean
 
 -- an entry "equal, component by component", to a
 abbrev pub contains : NVector → List NVector → Bool
-contains a ps = any (λ p. eq p a) ps
+contains a ps = list_any (λ p. eq p a) ps
 
 -- "an entry equal, component by component, to the negation of an entry, itself included"
 abbrev pub contains_antipodal : List NVector → Bool
-contains_antipodal ps = any (λ p. contains (antipode p) ps) ps
+contains_antipodal ps = list_any (λ p. contains (antipode p) ps) ps
 
 -- x += v.x(), y += v.y(), z += v.z()
 abbrev pub plus : Vec3 → NVector → Vec3

@@ -53,10 +53,5 @@ pub fn triangle_mean_position(p1: NVector, p2: NVector, p3: NVector) -> Result<N
 pub fn plus(s: Vec3, p: NVector) -> Vec3
     ensures { result ≡ spec.plus s p }
 {
-    let v = p.as_vec3();
-    Vec3 {
-        x: s.x + v.x,
-        y: s.y + v.y,
-        z: s.z + v.z,
-    }
+    p.as_vec3().sums(s)
 }

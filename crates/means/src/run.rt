@@ -1,6 +1,7 @@
 // The mean of positions that are read one by one, however they lie.
 ghost use Rattle.std.specs.Prelude.{◌≡◌, ◌<◌, List, length, get_or};
 ghost use Rattle.std.specs.Float.Ieee as Ieee;
+ghost use Rattle.std.specs.List.{list_any};
 ghost use Rattle.jord.specs.Positions.{as_vec3};
 ghost use Rattle.jord.specs.declared.positions.NVector.{NVector};
 ghost use Rattle.means.specs.Mean as spec;
@@ -44,32 +45,19 @@ pub(crate) fn mean<R: Run>(ps: R) -> Result<NVector, NoMean>
 fn contains_antipodal<R: Run>(ps: R) -> bool
     ensures { result ≡ spec.contains_antipodal (R.listed ps) }
 {
-    for i in 0..ps.len() {
-        if contains(ps, ps.at(i).antipode()) {
-            return true;
-        }
-    }
-    false
+    (0..ps.len()).any(|i| contains(ps, ps.at(i).antipode()))
 }
 
 // Whether a position equals a. The x alone first: most often none has it.
 fn contains<R: Run>(ps: R, a: NVector) -> bool
     ensures { result ≡ spec.contains a (R.listed ps) }
 {
-    if !among(ps, a.as_vec3().x) {
-        return false;
-    }
-    for i in 0..ps.len() {
-        if ps.at(i) == a {
-            return true;
-        }
-    }
-    false
+    among(ps, a.as_vec3().x) && (0..ps.len()).any(|i| ps.at(i) == a)
 }
 
 // Whether a position's x equals x. There is no early return, so that several are compared at once.
 fn among<R: Run>(ps: R, x: f64) -> bool
-    ensures { result ≡ spec.any (λ p. Ieee.eq (as_vec3 p).x x) (R.listed ps) }
+    ensures { result ≡ list_any (λ p. Ieee.eq (as_vec3 p).x x) (R.listed ps) }
 {
     let mut found = false;
     for i in 0..ps.len() {
@@ -82,9 +70,6 @@ fn among<R: Run>(ps: R, x: f64) -> bool
 pub(crate) fn vec3_mean<R: Run>(ps: R) -> Vec3
     ensures { result ≡ spec.vec3_mean (R.listed ps) }
 {
-    let mut s = Vec3::ZERO;
-    for i in 0..ps.len() {
-        s = plus(s, ps.at(i));
-    }
+    let s = (0..ps.len()).fold(Vec3::ZERO, |s, i| plus(s, ps.at(i)));
     Vec3::new_unit(s.x, s.y, s.z)
 }

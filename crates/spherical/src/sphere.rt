@@ -9,9 +9,9 @@ use arcs::{Side, base};
 use chases::outcome::{of_hours, of_seconds};
 use chases::{
     INTERCEPT_START, chase_new, chase_start, cpa_new, int_min_nr_rec, int_spd_nr_rec,
-    newton_raphson,
+    newton_raphson, pos,
 };
-use float::trig::{PI, sin_cos};
+use float::trig::sin_cos;
 use jord::angle::Angle;
 use jord::length::Length;
 use jord::positions::NVector;
@@ -19,6 +19,7 @@ use jord::speed::Speed;
 use jord::vehicle::Vehicle;
 use patterns::magnitude;
 use remainders::rem;
+use std::f64::consts::PI;
 use vectors::vec3::Vec3;
 use walks::Outcome;
 
@@ -292,6 +293,5 @@ fn heading(v: Vec3, bearing: Angle) -> Vec3
 fn towards(v: Vec3, w: Vec3, a: f64) -> Vec3
     ensures { result ≡ spec.towards v w a }
 {
-    let p = sin_cos(a);
-    v.mul(p.cos).add(w.mul(p.sin))
+    pos(v, w, sin_cos(a))
 }

@@ -1,2 +1,3 @@
 pub mod PlusZero
 pub mod Vectors
+pub mod Products

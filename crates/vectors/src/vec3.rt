@@ -203,7 +203,7 @@ impl Vec3 {
     }
 
     // o + self, a part of -0.0 kept.
-    fn sums(self, o: Vec3) -> Self
+    pub fn sums(self, o: Vec3) -> Self
         ensures { result ≡ spec.sums self o }
     {
         Vec3 {
@@ -235,13 +235,7 @@ impl Vec3 {
     pub fn unit(self) -> Self
         ensures { result ≡ spec.unit self }
     {
-        let n = self.norm();
-        if n == 0.0 {
-            Vec3::ZERO
-        } else {
-            let s = 1.0 / n;
-            self.mul(s)
-        }
+        Vec3::new_unit(self.x, self.y, self.z)
     }
 
     // The sum: the source's `Vec3 + Vec3`.

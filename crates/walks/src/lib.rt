@@ -20,7 +20,7 @@ pub enum Step {
     Next(f64),
 }
 
-// What a walk comes to; a count is the steps begun. No `Result`: it would take two types more, and both readers tell all three apart and pass none on.
+// What a walk comes to; a count is the steps begun. No `Result`: it would take an error enum more, and no `?` could stand, since the one reader makes an `Outcome` of each case.
 #[derive(Clone, Copy)]
 pub enum Walk {
     Accepted { time: f64, count: u32 },

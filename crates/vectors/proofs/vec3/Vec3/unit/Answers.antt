@@ -1,11 +1,7 @@
 -- `unit` meets its contract.
-use Rattle.vectors.specs.Vec3.{unit}
+use Rattle.std.proofs.Common.{sym, ◌∙◌}
+use Rattle.vectors.proofs.Products.{unit-is-new_unit}
 use Rattle.vectors.proofs.vec3.Vec3.unit.Goals as goal
 
-pub returns-then-n : goal.returns-then-n
-unfolding unit
-returns-then-n c = rw (← c.norm-n.ensures, c.if-n.true)
-
-pub returns-else-n : goal.returns-else-n
-unfolding unit
-returns-else-n c = rw (← c.norm-n.ensures, c.if-n.false) c.mul.ensures
+pub returns : goal.returns
+returns c = c.new_unit.ensures ∙ sym (unit-is-new_unit c.args.self)
