@@ -42,6 +42,20 @@ pass a = record a { at = on a.at field }
 abbrev pub pass3 : Args → Args
 pass3 a = pass (pass (pass a))
 
+-- past the fields of two positions, of a vehicle and of a matrix
+abbrev pub pass6 : Args → Args
+pass6 a = pass3 (pass3 a)
+
+abbrev pub pass5 : Args → Args
+pass5 a = pass (pass (pass3 a))
+
+abbrev pub pass9 : Args → Args
+pass9 a = pass3 (pass3 (pass3 a))
+
+-- past all
+abbrev pub pass_rest : Args → Args
+pass_rest a = record a { at = length a.fields.now }
+
 -- the number of the next field's digits
 unfoldable pub whole : Args → ℕ
 whole a = lows_in a.fields.now (on a.at 1) digits

@@ -50,8 +50,7 @@ impl<'a> Args<'a> {
 
     // Takes all that are left.
     pub fn pass_rest(&mut self)
-        ensures fields { self.new.fields.now ≡ self.old.fields.now }
-        ensures place { self.new.at ≡ length self.old.fields.now }
+        ensures { self.new ≡ spec.pass_rest self.old }
     {
         self.at = self.fields.len();
     }

@@ -1,9 +1,21 @@
 // Functions 01 to 0b, and 8e, both of sine and cosine: the floats.
+ghost use Rattle.std.specs.Prelude.{◌≡◌, length};
+ghost use Rattle.probe_fields.specs.Answered as answered;
+ghost use Rattle.probe_fields.specs.Page.{sheet};
+ghost use Rattle.probe_fields.specs.Floats as spec;
+
 use crate::args::Args;
 use crate::page::Page;
 
 // Is f one of these? Then its result is put on the page.
-pub(crate) fn answer(f: u64, args: &mut Args, page: &mut Page) -> bool {
+#[tactic(auto, unfolding(crate::specs::Floats::floats))]
+pub(crate) fn answer(f: u64, args: &mut Args, page: &mut Page) -> bool
+    ensures same_reference { page.new.bytes.ghost_name ≡ page.old.bytes.ghost_name }
+    ensures size { length page.new.bytes.now ≡ length page.old.bytes.now }
+    ensures known { result ≡ answered.is_known (spec.floats f args.old) }
+    ensures written { sheet page.new ≡ answered.over (sheet page.old) (spec.floats f args.old) }
+    ensures arguments { args.new ≡ answered.rest args.old (spec.floats f args.old) }
+{
     match f {
         0x01 => page.put(patterns::sign_bit(args.float())),
         0x02 => page.put(patterns::magnitude(args.float())),

@@ -1,11 +1,17 @@
 // The arguments and results of a call of the program probe, and the calls of the float ground, numbers and durations by their number.
 #![tactic(auto)]
 
+ghost use Rattle.std.specs.Prelude.{◌≡◌, length};
+ghost use Rattle.probe_fields.specs.Answered as answered;
+ghost use Rattle.probe_fields.specs.Page.{sheet};
+ghost use Rattle.probe_fields.specs.Answer as spec;
+
 use crate::args::Args;
 use crate::page::Page;
 
 pub mod args;
 mod durations;
+mod fields;
 mod floats;
 mod numbers;
 pub mod page;
@@ -13,7 +19,14 @@ pub mod page;
 // Number, arguments and page are lent one by one, here and above: each arm reads from the one and writes to the other, and would take a struct of the three apart.
 
 // Is f a function of these? Then its result is put on the page. It takes its arguments, whether or not the line has as many.
-pub fn answer(f: u64, args: &mut Args, page: &mut Page) -> bool {
+#[tactic(auto, unfolding(crate::specs::Answer::answer))]
+pub fn answer(f: u64, args: &mut Args, page: &mut Page) -> bool
+    ensures same_reference { page.new.bytes.ghost_name ≡ page.old.bytes.ghost_name }
+    ensures size { length page.new.bytes.now ≡ length page.old.bytes.now }
+    ensures known { result ≡ answered.is_known (spec.answer f args.old) }
+    ensures written { sheet page.new ≡ answered.over (sheet page.old) (spec.answer f args.old) }
+    ensures arguments { args.new ≡ answered.rest args.old (spec.answer f args.old) }
+{
     floats::answer(f, args, page)
         || durations::answer(f, args, page)
         || numbers::answer(f, args, page)

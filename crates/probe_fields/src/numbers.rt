@@ -1,9 +1,21 @@
 // Functions 10 to 13: the comparisons of numbers.
+ghost use Rattle.std.specs.Prelude.{◌≡◌, length};
+ghost use Rattle.probe_fields.specs.Answered as answered;
+ghost use Rattle.probe_fields.specs.Page.{sheet};
+ghost use Rattle.probe_fields.specs.Numbers as spec;
+
 use crate::args::Args;
 use crate::page::Page;
 
 // Is f one of these? Then its result is put on the page.
-pub(crate) fn answer(f: u64, args: &mut Args, page: &mut Page) -> bool {
+#[tactic(auto, unfolding(crate::specs::Numbers::numbers))]
+pub(crate) fn answer(f: u64, args: &mut Args, page: &mut Page) -> bool
+    ensures same_reference { page.new.bytes.ghost_name ≡ page.old.bytes.ghost_name }
+    ensures size { length page.new.bytes.now ≡ length page.old.bytes.now }
+    ensures known { result ≡ answered.is_known (spec.numbers f args.old) }
+    ensures written { sheet page.new ≡ answered.over (sheet page.old) (spec.numbers f args.old) }
+    ensures arguments { args.new ≡ answered.rest args.old (spec.numbers f args.old) }
+{
     match f {
         0x10 => page.put(jord::numbers::eq_zero(args.float())),
         0x11 => page.put(jord::numbers::eq(args.float(), args.float())),

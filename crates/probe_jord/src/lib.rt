@@ -1,6 +1,11 @@
 // Units, vectors, matrices and positions by the number of their function, as the program probe takes them.
 #![tactic(auto)]
 
+ghost use Rattle.std.specs.Prelude.{◌≡◌, length};
+ghost use Rattle.probe_fields.specs.Answered as answered;
+ghost use Rattle.probe_fields.specs.Page.{sheet};
+ghost use Rattle.probe_jord.specs.Answer as spec;
+
 use probe_fields::args::Args;
 use probe_fields::page::Page;
 
@@ -10,7 +15,14 @@ mod units;
 mod vec3;
 
 // Is f a function of these? Then its result is put on the page. It takes its arguments, whether or not the line has as many.
-pub fn answer(f: u64, args: &mut Args, page: &mut Page) -> bool {
+#[tactic(auto, unfolding(crate::specs::Answer::answer))]
+pub fn answer(f: u64, args: &mut Args, page: &mut Page) -> bool
+    ensures same_reference { page.new.bytes.ghost_name ≡ page.old.bytes.ghost_name }
+    ensures size { length page.new.bytes.now ≡ length page.old.bytes.now }
+    ensures known { result ≡ answered.is_known (spec.answer f args.old) }
+    ensures written { sheet page.new ≡ answered.over (sheet page.old) (spec.answer f args.old) }
+    ensures arguments { args.new ≡ answered.rest args.old (spec.answer f args.old) }
+{
     units::answer(f, args, page)
         || vec3::answer(f, args, page)
         || mat33::answer(f, args, page)

@@ -1,10 +1,22 @@
 // Functions 41 to 43: matrices of three rows.
+ghost use Rattle.std.specs.Prelude.{◌≡◌, length};
+ghost use Rattle.probe_fields.specs.Answered as answered;
+ghost use Rattle.probe_fields.specs.Page.{sheet};
+ghost use Rattle.probe_jord.specs.Mat33 as spec;
+
 use probe_fields::args::Args;
 use probe_fields::page::Page;
 use vectors::mat33::Mat33;
 
 // Is f one of these? Then its result is put on the page.
-pub(crate) fn answer(f: u64, args: &mut Args, page: &mut Page) -> bool {
+#[tactic(auto, unfolding(crate::specs::Mat33::matrices))]
+pub(crate) fn answer(f: u64, args: &mut Args, page: &mut Page) -> bool
+    ensures same_reference { page.new.bytes.ghost_name ≡ page.old.bytes.ghost_name }
+    ensures size { length page.new.bytes.now ≡ length page.old.bytes.now }
+    ensures known { result ≡ answered.is_known (spec.matrices f args.old) }
+    ensures written { sheet page.new ≡ answered.over (sheet page.old) (spec.matrices f args.old) }
+    ensures arguments { args.new ≡ answered.rest args.old (spec.matrices f args.old) }
+{
     match f {
         0x41 => page.put(args.mat33().transpose()),
         0x42 => page.put(Mat33::vec3_mul(args.vec3(), args.mat33())),

@@ -1,10 +1,22 @@
 // Functions 50 to 56 and 66: positions and vehicles.
+ghost use Rattle.std.specs.Prelude.{◌≡◌, length};
+ghost use Rattle.probe_fields.specs.Answered as answered;
+ghost use Rattle.probe_fields.specs.Page.{sheet};
+ghost use Rattle.probe_jord.specs.Positions as spec;
+
 use jord::positions::{LatLong, NVector};
 use probe_fields::args::Args;
 use probe_fields::page::Page;
 
 // Is f one of these? Then its result is put on the page.
-pub(crate) fn answer(f: u64, args: &mut Args, page: &mut Page) -> bool {
+#[tactic(auto, unfolding(crate::specs::Positions::positions_of))]
+pub(crate) fn answer(f: u64, args: &mut Args, page: &mut Page) -> bool
+    ensures same_reference { page.new.bytes.ghost_name ≡ page.old.bytes.ghost_name }
+    ensures size { length page.new.bytes.now ≡ length page.old.bytes.now }
+    ensures known { result ≡ answered.is_known (spec.positions_of f args.old) }
+    ensures written { sheet page.new ≡ answered.over (sheet page.old) (spec.positions_of f args.old) }
+    ensures arguments { args.new ≡ answered.rest args.old (spec.positions_of f args.old) }
+{
     match f {
         0x50 => page.put(LatLong::from_degrees(args.float(), args.float())),
         0x51 => page.put(LatLong::from_nvector(args.nvector())),

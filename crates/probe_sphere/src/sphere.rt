@@ -1,4 +1,10 @@
 // Functions 70 to 78 and 7a: the sphere, its walks, and all that a line of the board holds.
+ghost use Rattle.std.specs.Prelude.{◌≡◌, length};
+ghost use Rattle.probe_fields.specs.Answered as answered;
+ghost use Rattle.probe_fields.specs.Args.{pass};
+ghost use Rattle.probe_fields.specs.Page.{sheet, put_all};
+ghost use Rattle.probe_sphere.specs.Sphere as spec;
+
 use arcs::great_circle::GreatCircle;
 use jord::length::Length;
 use jord::positions::NVector;
@@ -8,7 +14,14 @@ use spherical::sphere::Sphere;
 use walks::Outcome;
 
 // Is f one of these? Then its result is put on the page.
-pub(crate) fn answer(f: u64, args: &mut Args, page: &mut Page) -> bool {
+#[tactic(auto, unfolding(crate::specs::Sphere::sphere_calls))]
+pub(crate) fn answer(f: u64, args: &mut Args, page: &mut Page) -> bool
+    ensures same_reference { page.new.bytes.ghost_name ≡ page.old.bytes.ghost_name }
+    ensures size { length page.new.bytes.now ≡ length page.old.bytes.now }
+    ensures known { result ≡ answered.is_known (spec.sphere_calls f args.old) }
+    ensures written { sheet page.new ≡ answered.over (sheet page.old) (spec.sphere_calls f args.old) }
+    ensures arguments { args.new ≡ answered.rest args.old (spec.sphere_calls f args.old) }
+{
     match f {
         0x70 => page.put(Sphere::is_great_circle(args.nvector(), args.nvector())),
         0x71 => page.put(Sphere::angle(args.nvector(), args.nvector())),
@@ -26,16 +39,24 @@ pub(crate) fn answer(f: u64, args: &mut Args, page: &mut Page) -> bool {
 }
 
 // The sphere of a radius in metres.
-pub fn sphere_of(args: &mut Args) -> Sphere {
+pub fn sphere_of(args: &mut Args) -> Sphere
+    ensures value { result ≡ spec.sphere_of args.old }
+    ensures place { args.new ≡ pass args.old }
+{
     Sphere::new(args.length())
 }
 
 // The distance of p from the great circle through two positions.
-fn offset(s: Sphere, p: NVector, start: NVector, end: NVector) -> Length {
+fn offset(s: Sphere, p: NVector, start: NVector, end: NVector) -> Length
+    ensures { result ≡ spec.offset s p start end }
+{
     s.cross_track_distance(p, GreatCircle::new(start, end))
 }
 
-fn cross_track(args: &mut Args) -> Length {
+fn cross_track(args: &mut Args) -> Length
+    ensures value { result ≡ spec.cross_track args.old }
+    ensures place { args.new ≡ spec.past_cross_track args.old }
+{
     offset(
         sphere_of(args),
         args.nvector(),
@@ -44,13 +65,21 @@ fn cross_track(args: &mut Args) -> Length {
     )
 }
 
-fn meeting(args: &mut Args) -> Outcome {
+fn meeting(args: &mut Args) -> Outcome
+    ensures value { result ≡ spec.meeting args.old }
+    ensures place { args.new ≡ spec.past_meeting args.old }
+{
     sphere_of(args).time_to_intercept(args.nvector(), args.speed(), args.vehicle())
 }
 
 // Of radius, own ship, the track's ends and target, what a board's line has of them: distance, bearing, side and offset,
 // then closest approach, meeting at own speed and longest time to meet.
-fn put_solve(page: &mut Page, args: &mut Args) {
+fn put_solve(page: &mut Page, args: &mut Args)
+    ensures same_reference { page.new.bytes.ghost_name ≡ page.old.bytes.ghost_name }
+    ensures size { length page.new.bytes.now ≡ length page.old.bytes.now }
+    ensures written { sheet page.new ≡ put_all (sheet page.old) (spec.solve args.old) }
+    ensures place { args.new ≡ spec.past_solve args.old }
+{
     let s = sphere_of(args);
     let own = args.vehicle();
     let start = args.nvector();

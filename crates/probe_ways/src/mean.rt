@@ -1,4 +1,11 @@
 // Functions 79 and 8d: the mean of as many coordinates, or positions, as the line has.
+ghost use Rattle.std.specs.Prelude.{◌≡◌, length};
+ghost use Rattle.means.specs.Mean as means;
+ghost use Rattle.probe_fields.specs.Answered as answered;
+ghost use Rattle.probe_fields.specs.Args.{pass_rest};
+ghost use Rattle.probe_fields.specs.Page.{sheet};
+ghost use Rattle.probe_ways.specs.Mean as spec;
+
 use jord::positions::NVector;
 use means::lent::mean_position_of;
 use means::{NoMean, mean_position};
@@ -10,16 +17,26 @@ use vectors::vec3::Vec3;
 const POSITIONS: usize = ARGUMENTS / 3;
 
 // Is f one of these? Then its result is put on the page.
-pub(crate) fn answer(f: u64, args: &mut Args, page: &mut Page) -> bool {
+#[tactic(auto, unfolding(crate::specs::Mean::mean_calls))]
+pub(crate) fn answer(f: u64, args: &mut Args, page: &mut Page) -> bool
+    ensures same_reference { page.new.bytes.ghost_name ≡ page.old.bytes.ghost_name }
+    ensures size { length page.new.bytes.now ≡ length page.old.bytes.now }
+    ensures known { result ≡ answered.is_known (spec.mean_calls f args.old) }
+    ensures written { sheet page.new ≡ answered.over (sheet page.old) (spec.mean_calls f args.old) }
+    ensures arguments { args.new ≡ answered.rest args.old (spec.mean_calls f args.old) }
+{
     match f {
-        0x79 => page.put(of_coordinates(args).map_err(|why| why.number())),
-        0x8d => page.put(of_positions(args).map_err(|why| why.number())),
+        0x79 => page.put(of_coordinates(args)),
+        0x8d => page.put(of_positions(args)),
         _ => return false,
     }
     true
 }
 
-fn of_coordinates(args: &mut Args) -> Result<NVector, NoMean> {
+fn of_coordinates(args: &mut Args) -> Result<NVector, NoMean>
+    ensures value { result ≡ means.mean_position (spec.floats (spec.coordinates args.old) args.old) }
+    ensures place { args.new ≡ spec.past_floats (spec.coordinates args.old) args.old }
+{
     let n = args.left().min(ARGUMENTS);
     let mut coordinates = [0.0; ARGUMENTS];
     for x in &mut coordinates[..n] {
@@ -29,7 +46,10 @@ fn of_coordinates(args: &mut Args) -> Result<NVector, NoMean> {
 }
 
 // One or two numbers left over at the end count for nothing.
-fn of_positions(args: &mut Args) -> Result<NVector, NoMean> {
+fn of_positions(args: &mut Args) -> Result<NVector, NoMean>
+    ensures value { result ≡ means.mean_of (spec.positions (spec.places args.old) args.old) }
+    ensures place { args.new ≡ pass_rest args.old }
+{
     let n = (args.left() / 3).min(POSITIONS);
     let mut positions = [NVector::new(Vec3::ZERO); POSITIONS];
     for p in &mut positions[..n] {
