@@ -1,12 +1,13 @@
 // Sine, cosine and atan2 in document 01's words, operation by operation.
 ghost use Rattle.std.specs.Prelude.{◌≡◌, Float};
+ghost use Rattle.patterns.specs.Operators.{◌⊗◌};
 ghost use Rattle.float.specs.Once as once;
 ghost use Rattle.float.specs.Trig as spec;
 
+pub use std::f64::consts::PI;
+
 use patterns::{magnitude, sign_bit};
 use remainders::rem;
-
-pub const PI: f64 = 3.141592653589793;
 
 // Above this ratio, near the tangent of PI / 8, the arc is taken from PI / 4.
 const ARC_BOUND: f64 = 0.4140625;
@@ -87,14 +88,21 @@ fn horner<const N: usize>(coefficients: &[f64; N], z: f64) -> f64
     }
 }
 
-// S: y times the Horner value in y * y.
+// A series of odd powers: y times the Horner value in y * y.
+fn odd_series<const N: usize>(coefficients: &[f64; N], y: f64) -> f64
+    ensures { result ≡ y ⊗ once.horner coefficients.now (y ⊗ y) }
+{
+    y * horner(coefficients, y * y)
+}
+
+// S: the series of the sine.
 fn sine_series(y: f64) -> f64
     ensures { result ≡ spec.sine_series y }
 {
-    y * horner(&SINE, y * y)
+    odd_series(&SINE, y)
 }
 
-// C: the Horner value in y * y.
+// C: the series of the cosine, of even powers.
 fn cosine_series(y: f64) -> f64
     ensures { result ≡ spec.cosine_series y }
 {
@@ -168,27 +176,27 @@ fn turned<S: Fn() -> f64, C: Fn() -> f64>(j: u8, s: S, c: C) -> f64
 }
 
 // Sine for j 0 to 4: S, C, -S, -C, S.
-fn sine_at(j: u8, y: f64) -> f64
-    ensures { result ≡ spec.sine_at j y }
+fn sine_at(a: Reduction) -> f64
+    ensures { result ≡ spec.sine_at a.j a.y }
 {
-    turned(j, || sine_series(y), || cosine_series(y))
+    turned(a.j, || sine_series(a.y), || cosine_series(a.y))
 }
 
 // Cosine for j 0 to 4: C, -S, -C, S, C.
-fn cosine_at(j: u8, y: f64) -> f64
-    ensures { result ≡ spec.cosine_at j y }
+fn cosine_at(a: Reduction) -> f64
+    ensures { result ≡ spec.cosine_at a.j a.y }
 {
-    turned(j, || cosine_series(y), || -sine_series(y))
+    turned(a.j, || cosine_series(a.y), || -sine_series(a.y))
 }
 
 // Both for j 0 to 4, from one S and one C; with the sine placed first the compiled code has a jump more.
-fn both_at(j: u8, y: f64) -> SinCos
-    ensures { result ≡ once.both_at j y }
+fn both_at(a: Reduction) -> SinCos
+    ensures { result ≡ once.both_at a.j a.y }
 {
-    let s = sine_series(y);
-    let c = cosine_series(y);
-    let cos = turned(j, || c, || -s);
-    let sin = turned(j, || s, || c);
+    let s = sine_series(a.y);
+    let c = cosine_series(a.y);
+    let cos = turned(a.j, || c, || -s);
+    let sin = turned(a.j, || s, || c);
     SinCos { sin, cos }
 }
 
@@ -213,7 +221,7 @@ pub fn sin_cos_into(x: f64, sin: &mut f64, cos: &mut f64)
         return;
     }
     let a = reduce(x);
-    let both = both_at(a.j, a.y);
+    let both = both_at(a);
     *sin = negated_if(sign_bit(x), both.sin);
     *cos = both.cos;
 }
@@ -222,23 +230,21 @@ pub fn sin_cos_into(x: f64, sin: &mut f64, cos: &mut f64)
 pub fn sin(x: f64) -> f64
     ensures { result ≡ spec.sin x }
 {
-    let a = reduce(x);
-    negated_if(sign_bit(x), sine_at(a.j, a.y))
+    negated_if(sign_bit(x), sine_at(reduce(x)))
 }
 
 // The cosine; a NaN for a NaN or an infinity.
 pub fn cos(x: f64) -> f64
     ensures { result ≡ spec.cos x }
 {
-    let a = reduce(x);
-    cosine_at(a.j, a.y)
+    cosine_at(reduce(x))
 }
 
-// u times the Horner value in u * u.
+// The series of the arc.
 fn arc_series(u: f64) -> f64
     ensures { result ≡ spec.arc_series u }
 {
-    u * horner(&ARC, u * u)
+    odd_series(&ARC, u)
 }
 
 // The lesser over the greater: 0 where both are zero, 1 where both are infinite.

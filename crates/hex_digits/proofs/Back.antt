@@ -7,10 +7,11 @@ use native.Mathlib.Omega.{arith}
 use borrow.Author.Tests.{ltb-true, ltb-false, le-leb, lt-leb}
 use lib.Arith.{mod-mul}
 use lib.Dec.{ltb, lit<}
-use lib.ListN.{length, get_or, length-append}
-use lib.Seq.{append_snoc, get_or_at}
+use lib.ListN.{length, take, drop, get_or, length-append}
+use lib.Seq.{append_snoc, get_or_at, length-take-le}
 use Rattle.unhex.specs.Digits.{digit_of, hex_at}
 use Rattle.hex_digits.specs.Hex.{byte_of, digits}
+use Rattle.hex_digits.specs.Write.{over, Wrote}
 use Rattle.unhex.proofs.Read.{by-test, number-below}
 use Rattle.hex_digits.proofs.Write.{length_digits}
 
@@ -38,3 +39,10 @@ digits-back ws zs (suc n) v =
     ap digit_of (get_or_at (ws ++ ds) b zs 0 (length ws + n) k) ∙ digit-back (v % 16) (omega arith) in
     let p : 0 < 16 ^ n = omega (arith, number-below [] 0 n) in
     ap (λ (l : List ℕ). hex_at l (length ws) (suc n)) e ∙ rw (digits-back ws (b ∷ zs) n (v / 16), d, pow-suc 16 n) (sym (mod-mul v p (lit< tt)))
+
+-- and in a page where they were written
+pub wrote-back : {xs out : List ℕ} {at next : ℕ} (n v : ℕ) → Wrote xs at n (digits n v) out next → hex_at out at n ≡ v % 16 ^ n
+unfolding over
+wrote-back {xs} {out} {at} {next} n v w =
+    let l : length (take at xs) ≡ at = length-take-le at xs (omega arith) in
+    rw w.text (rw l at (digits-back (take at xs) (drop (at + length (digits n v)) xs) n v))

@@ -27,6 +27,7 @@ pub fn put_number(out: &mut [u8], at: usize, value: u64, n: usize) -> usize
         return at;
     }
     let mut v = value;
+    // By index: of bytes written through `iter_mut().rev()` a proof knows nothing afterwards, and the goal `returns` stays open.
     for i in (0..n).rev() {
         out[at + i] = byte_of(v % 16);
         v /= 16;

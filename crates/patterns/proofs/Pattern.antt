@@ -2,7 +2,7 @@
 use Rattle.std.proofs.Common.{◌≡◌, ℕ, zero, suc, ◌+◌, ◌*◌, ◌/◌, ◌%◌, ◌^◌, ◌<◌, ◌≤◌, Bool, true, false, cond, not, T, eqb, ltb, leb, sym, refl, ap, ◌∙◌, subst, inl, inr, true≢false, mod-eq_of_lt, eq-zero-or-pos, not-le_of_lt, arith, eqb→eq, lt→ltb, leb→le}
 use lib.Dec.{not_T}
 use lib.Arith.{le→nltb}
-use lib.Ieee.{Float, nan, inf, fin, binary64, odd, of_fields, of_bits, is_nan, nan_bits, ne, div}
+use lib.Ieee.{Float, nan, inf, fin, binary64, odd, of_fields, of_bits, is_nan, nan_bits, ne}
 use lib.Ieee.Bits.{is_true, is_false, cond_no, nan_bits_is, nan_bits_above}
 use lib.Ieee.Compare.{differs_from_itself}
 
@@ -16,10 +16,10 @@ not-nan nan h = absurd (true≢false h)
 not-nan (inf s) h = tt
 not-nan (fin s m e) h = tt
 
--- the quotient that the code writes for a NaN
-pub zero_by_zero : div binary64 (of_bits binary64 0) (of_bits binary64 0) ≡ nan
-unfolding div of_bits
-zero_by_zero = refl
+-- the code writes a NaN as `f64::NAN`
+pub nan_constant : of_bits binary64 0x7ff8000000000000 ≡ nan
+unfolding of_bits
+nan_constant = refl
 
 pub nan-of : (x : Float) → is_nan x ≡ true → x ≡ nan
 unfolding is_nan

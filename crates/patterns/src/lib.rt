@@ -5,7 +5,7 @@ ghost use Rattle.std.specs.Prelude.{◌≡◌, ◌^◌, ◌<◌, from_bits, to_b
 ghost use Rattle.std.specs.Float.{binary64};
 ghost use Rattle.patterns.specs.Bits as spec;
 
-// The product of two words, for the exact arithmetic above.
+// The high word of a product of two words, for remainders.
 pub mod words;
 
 // The weight of the sign bit in a pattern.
@@ -44,7 +44,7 @@ pub fn from_bits(bits: u64) -> f64
     ensures { result ≡ from_bits binary64 bits }
 {
     if bits % SIGN > INFINITY {
-        return 0.0 / 0.0;
+        return f64::NAN;
     }
     f64::from_bits(bits)
 }

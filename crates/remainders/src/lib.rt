@@ -53,10 +53,10 @@ pub fn rem(x: f64, y: f64) -> f64
     let p = f64::to_bits(x);
     let q = f64::to_bits(y);
     if p % SIGN >= INFINITY {
-        return 0.0 / 0.0;
+        return f64::NAN;
     }
     if q % SIGN == 0 {
-        return 0.0 / 0.0;
+        return f64::NAN;
     }
     if p % SIGN < q % SIGN {
         return x;

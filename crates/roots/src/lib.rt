@@ -115,7 +115,7 @@ pub fn sqrt(x: f64) -> f64
         return x;
     }
     if x < 0.0 {
-        return 0.0 / 0.0;
+        return f64::NAN;
     }
     let bits = f64::to_bits(x);
     if bits == INFINITY {

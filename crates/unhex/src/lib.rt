@@ -1,7 +1,7 @@
 // Lowercase hexadecimal digits read out of lent bytes.
 #![tactic(auto)]
 
-ghost use Rattle.std.specs.Prelude.{ℕ, List, ◌≡◌, ◌^◌, ◌<◌, ◌≤◌, min, drop};
+ghost use Rattle.std.specs.Prelude.{ℕ, List, ◌≡◌, ◌^◌, ◌<◌, ◌≤◌, min, length, drop};
 ghost use Rattle.std.specs.List.{list_all};
 ghost use Rattle.unhex.specs.Digits.{is_digit, all_digits, digit_of, hex_at, low_of, lows_at, lows_in, lows_of, Reads};
 
@@ -24,6 +24,19 @@ fn each_digit(s: &[u8]) -> bool
     ok
 }
 
+// Are all bytes of a short slice digits? From 8 on they are two blocks of 8, which may overlap.
+fn each_of_few(s: &[u8]) -> bool
+    requires { length s.now ≤ 16 }
+    ensures { result ≡ all_digits s.now }
+{
+    if let Some(first) = s.first_chunk::<8>()
+        && let Some(last) = s.last_chunk::<8>()
+    {
+        return each_digit(first) & each_digit(last);
+    }
+    each_digit(s)
+}
+
 // Are all bytes of these blocks digits?
 fn each_block(blocks: &[[u8; 16]]) -> bool
     ensures { result ≡ list_all all_digits blocks.now }
@@ -37,7 +50,7 @@ pub fn all_digits(s: &[u8]) -> bool
     ensures unchanged { s.exit.now ≡ s.entry.now }
 {
     let Some(last) = s.last_chunk::<16>() else {
-        return each_digit(s);
+        return each_of_few(s);
     };
     // The last block may overlap the one before it: no byte is then tested by itself.
     let (blocks, _) = s[..s.len() - 1].as_chunks::<16>();

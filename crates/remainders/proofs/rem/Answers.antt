@@ -3,7 +3,7 @@ use Rattle.std.proofs.Common.{◌≡◌, Bool, true, false, T, sym, ap, ◌∙�
 use lib.Ieee.{Float, binary64, rem, fits}
 use Rattle.patterns.specs.Bits.{sign_bit}
 use Rattle.patterns.specs.declared.Unpacked.{Unpacked}
-use Rattle.patterns.proofs.Pattern.{told-nan, told-not-nan, zero_by_zero}
+use Rattle.patterns.proofs.Pattern.{told-nan, told-not-nan, nan_constant}
 use Rattle.remainders.proofs.Fmod.{Divides, rem-nan-left, rem-nan-right, rem-of-infinity, rem-by-zero, rem-of-smaller, rem-of-larger}
 use Rattle.remainders.proofs.Fmod.{below-infinity, rem_parts, with_sign, digits_of, place_of}
 use Rattle.remainders.proofs.rem.Goals as goal
@@ -21,11 +21,11 @@ returns-then-is_nan-2 c = let e = told-nan c.args.y c.is_nan-2.ensures.value c.i
 pub returns-then-p-ge-INFINITY : goal.returns-then-p-ge-INFINITY
 returns-then-p-ge-INFINITY c =
     let x = c.args.x in
-    zero_by_zero ∙ sym (rem-of-infinity x c.args.y (held x c.well_formed.0.1) (told-not-nan x c.is_nan.ensures.value c.if-is_nan.false) c.if-p-ge-INFINITY.true)
+    nan_constant ∙ sym (rem-of-infinity x c.args.y (held x c.well_formed.0.1) (told-not-nan x c.is_nan.ensures.value c.if-is_nan.false) c.if-p-ge-INFINITY.true)
 
 pub returns-then-q-eq0 : goal.returns-then-q-eq0
 returns-then-q-eq0 c =
-    zero_by_zero ∙ sym (rem-by-zero c.args.x c.args.y (held c.args.y c.well_formed.1.0.1) (below-infinity c.args.x c.if-p-ge-INFINITY.false) c.if-q-eq0.true)
+    nan_constant ∙ sym (rem-by-zero c.args.x c.args.y (held c.args.y c.well_formed.1.0.1) (below-infinity c.args.x c.if-p-ge-INFINITY.false) c.if-q-eq0.true)
 
 pub returns-then-p-q : goal.returns-then-p-q
 returns-then-p-q c =

@@ -5,7 +5,7 @@ use lib.Dec.{T}
 use lib.Ieee.{binary64, to_bits}
 use Rattle.patterns.specs.Bits.{digits, place}
 use Rattle.roots.specs.Root.{round_root}
-use Rattle.patterns.proofs.Pattern.{told-nan, told-not-nan, zero_by_zero}
+use Rattle.patterns.proofs.Pattern.{told-nan, told-not-nan, nan_constant}
 use Rattle.roots.proofs.Rooted.{Rooted, at-nan, at_zero, at-negative, at-infinity, left_over, rooted}
 use Rattle.roots.proofs.sqrt.Goals as goal
 
@@ -16,7 +16,7 @@ pub returns-then-x : goal.returns-then-x
 returns-then-x c = sym (at_zero c.args.x c.if-x.true)
 
 pub returns-then-x-2 : goal.returns-then-x-2
-returns-then-x-2 c = zero_by_zero ∙ sym (at-negative c.args.x c.if-x-2.true)
+returns-then-x-2 c = nan_constant ∙ sym (at-negative c.args.x c.if-x-2.true)
 
 pub returns-then-bits-eq-INFINITY : goal.returns-then-bits-eq-INFINITY
 returns-then-bits-eq-INFINITY c = sym (at-infinity c.args.x (subst T (sym c.well_formed.0.1) tt) c.if-bits-eq-INFINITY.true)

@@ -5,4 +5,4 @@ use Rattle.float.proofs.trig.arc_series.Goals as goal
 
 pub returns : goal.returns
 unfolding spec.arc_series of_int of_bits neg
-returns c = rw c.horner.ensures
+returns c = rw c.odd_series.ensures

@@ -4,4 +4,4 @@ use Rattle.float.proofs.trig.cos.Goals as goal
 
 pub returns : goal.returns
 unfolding spec.cos
-returns c = rw (c.cosine_at.ensures, c.reduce-a.ensures)
+returns c = rw (c.cosine_at.ensures, c.reduce.ensures)

@@ -8,5 +8,5 @@ use Rattle.float.proofs.trig.cosine_at.Goals as goal
 
 pub returns : goal.returns
 returns c =
-    let y = c.args.y in
-    c.turned.ensures (cosine_series y) (neg (sine_series y)) (λ r p. search rules) (λ r p. search rules) ∙ cosine-turned c.args.j y
+    let y = c.args.a.y in
+    c.turned.ensures (cosine_series y) (neg (sine_series y)) (λ r p. search rules) (λ r p. search rules) ∙ cosine-turned c.args.a.j y

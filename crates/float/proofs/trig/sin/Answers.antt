@@ -4,4 +4,4 @@ use Rattle.float.proofs.trig.sin.Goals as goal
 
 pub returns : goal.returns
 unfolding spec.sin
-returns c = rw (c.negated_if.ensures, c.sine_at.ensures, c.sign_bit.ensures, c.reduce-a.ensures)
+returns c = rw (c.negated_if.ensures, c.sine_at.ensures, c.sign_bit.ensures, c.reduce.ensures)

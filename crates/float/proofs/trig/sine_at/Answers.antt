@@ -7,5 +7,5 @@ use Rattle.float.proofs.trig.sine_at.Goals as goal
 
 pub returns : goal.returns
 returns c =
-    let y = c.args.y in
-    c.turned.ensures (sine_series y) (cosine_series y) (λ r p. search rules) (λ r p. search rules) ∙ sine-turned c.args.j y
+    let y = c.args.a.y in
+    c.turned.ensures (sine_series y) (cosine_series y) (λ r p. search rules) (λ r p. search rules) ∙ sine-turned c.args.a.j y

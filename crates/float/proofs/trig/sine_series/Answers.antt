@@ -5,4 +5,4 @@ use Rattle.float.proofs.trig.sine_series.Goals as goal
 
 pub returns : goal.returns
 unfolding of_int of_bits neg div
-returns c = rw c.horner.ensures refl
+returns c = rw c.odd_series.ensures refl

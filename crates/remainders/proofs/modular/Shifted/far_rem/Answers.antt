@@ -3,9 +3,9 @@ use Rattle.std.proofs.Common.{ℕ, ◌*◌, ◌%◌, ◌^◌, sym, ap, ◌∙◌
 use Rattle.remainders.proofs.Modulo.{mul-mod, shifted-out}
 use Rattle.remainders.proofs.modular.Shifted.far_rem.Goals as goal
 
-pub returns-then-by-eq-LEAST : goal.returns-then-by-eq-LEAST
-returns-then-by-eq-LEAST c =
-    sym (ap (λ (n : ℕ). c.args.self.digits * 2 ^ c.args.self.shift % n) c.if-by-eq-LEAST.true ∙ shifted-out c.args.self.digits 52 c.args.self.shift (omega arith))
+pub returns-then-by-eq-FIELD : goal.returns-then-by-eq-FIELD
+returns-then-by-eq-FIELD c =
+    sym (ap (λ (n : ℕ). c.args.self.digits * 2 ^ c.args.self.shift % n) c.if-by-eq-FIELD.true ∙ shifted-out c.args.self.digits 52 c.args.self.shift (omega arith))
 
 pub returns : goal.returns
 returns c =
