@@ -1,13 +1,16 @@
 -- The digits of each reply, counted.
+use mathlib.Core.Logic.{inl, inr}
 use mathlib.Core.Path.{sym, ap, ◌∙◌}
 use Rattle.wire.proofs.Sizes.{size_of, size_is}
 use Rattle.wire.proofs.reply.size.Goals as goal
 
 pub returns-in-Done : goal.returns-in-Done
-returns-in-Done c = sym (size_is _ ∙ ap size_of c.in-Done.is)
-
-pub returns-in-Refused : goal.returns-in-Refused
-returns-in-Refused c = sym (size_is _ ∙ ap size_of c.in-Refused.is)
+returns-in-Done c =
+    elim c.in-Done.is [
+      | inl (k, w) ↦ sym (size_is _ ∙ ap size_of w)
+      | inr (inl (k, q, w)) ↦ sym (size_is _ ∙ ap size_of w)
+      | inr (inr w) ↦ sym (size_is _ ∙ ap size_of w)
+    ]
 
 pub returns-in-Solved : goal.returns-in-Solved
 returns-in-Solved c = sym (size_is _ ∙ ap size_of c.in-Solved.is)
@@ -20,6 +23,3 @@ returns-in-Pick c = sym (size_is _ ∙ ap size_of c.in-Pick.is)
 
 pub returns-in-Total : goal.returns-in-Total
 returns-in-Total c = sym (size_is _ ∙ ap size_of c.in-Total.is)
-
-pub returns-in-NotAFrame : goal.returns-in-NotAFrame
-returns-in-NotAFrame c = sym (size_is _ ∙ ap size_of c.in-NotAFrame.is)
