@@ -4,8 +4,6 @@
 mod inputs;
 mod turns;
 
-ghost use Rattle.std.specs.Prelude.{◌≤◌, length};
-
 use std::io::Read;
 use turns::Call;
 
@@ -16,37 +14,25 @@ const COUNT: usize = 8;
 
 const LINE: usize = CALL + COUNT + 1;
 
-// Room for all that is read.
-const TEXT: usize = 4096;
+// The most lines that are answered.
+const LINES: usize = 372;
 
-// The digest of each whole line.
-fn answer<P: Print>(out: &P, text: &[u8]) {
-    for line in text.chunks_exact(LINE) {
-        let call = Call::from(hex_digits::number_at(line, 0, CALL));
-        let count = hex_digits::number_at(line, CALL, COUNT);
-        let digest = turns::digest(turns::turns(turns::full(), call, count));
-        let _ = println!(out; "{digest:016x}");
-    }
+// The digest of a line.
+fn answer<P: Print>(out: &P, line: &[u8]) {
+    let call = Call::from(hex_digits::number_at(line, 0, CALL));
+    let count = hex_digits::number_at(line, CALL, COUNT);
+    let digest = turns::digest(turns::turns(turns::full(), call, count));
+    let _ = println!(out; "{digest:016x}");
 }
 
-// Reads until the text is full, the input ends or a read fails. How many bytes came?
-// By hand: the library reads to the end into a Vec alone, and no crate here has a heap.
-fn read_full<R: Read>(input: &mut R, text: &mut [u8]) -> usize
-    ensures { result ≤ length text.new }
-{
-    let mut done = 0;
-    while done < text.len() {
-        let got = input.read(&mut text[done..]).unwrap_or(0);
-        if got == 0 {
-            break;
-        }
-        done += got;
-    }
-    done
-}
-
+// Answers whole lines until the input ends or a read fails.
 fn main(rt: HostRuntime) {
-    let mut text = [0u8; TEXT];
-    let n = read_full(&mut rt.stdin(), &mut text);
-    answer(&rt.stdout(), &text[..n]);
+    let mut input = rt.stdin();
+    let mut line = [0u8; LINE];
+    for _ in 0..LINES {
+        if input.read_exact(&mut line).is_err() {
+            return;
+        }
+        answer(&rt.stdout(), &line);
+    }
 }

@@ -3,7 +3,8 @@ use crate::inputs::{HELD, coordinates, fix, identity};
 use board::board::{fresh, own_ship, report, solve, track, withdraw};
 use jord::positions::NVector;
 use means::NoMean;
-use plain::call::{Answer, Refusal};
+use plain::call::Refusal;
+use plain::line::Line;
 use plain::state::{Answered, Board};
 use targets::asking::{mean, pick, total};
 
@@ -72,34 +73,57 @@ pub(crate) fn full() -> Board {
 pub(crate) fn digest(run: Run) -> u64 {
     let Answered { board, answer } = solve(run.board, identity(0));
     run.seen
-        .wrapping_add(of_answer(answer))
+        .wrapping_add(answer.seen())
         .wrapping_add(u64::from(total(board)))
-        .wrapping_add(of_mean(mean(board)))
-        .wrapping_add(of_choice(pick(board)))
+        .wrapping_add(mean(board).seen())
+        .wrapping_add(pick(board).seen())
 }
 
-// 0 for done, 1 for a line, or the refusal's number.
-fn of_answer(answer: Answer) -> u64 {
-    match answer {
-        Ok(None) => 0,
-        Ok(Some(_)) => 1,
-        Err(refusal) => u64::from(refusal.number()),
+// What an answer, or a part of one, adds to the digest.
+trait Seen {
+    fn seen(self) -> u64;
+}
+
+// What is handed out, or the number of why nothing is.
+impl<T: Seen, E: Seen> Seen for Result<T, E> {
+    fn seen(self) -> u64 {
+        match self {
+            Ok(handed) => handed.seen(),
+            Err(why) => why.seen(),
+        }
     }
 }
 
-// The bits of the position's x, or the refusal's number.
-fn of_mean(mean: Result<NVector, NoMean>) -> u64 {
-    match mean {
-        Ok(p) => patterns::to_bits(p.as_vec3().x()),
-        Err(why) => u64::from(why.number()),
+// 1 for a line, 0 for none.
+impl Seen for Option<Line> {
+    fn seen(self) -> u64 {
+        u64::from(self.is_some())
     }
 }
 
-// The identity, or the refusal's number.
-fn of_choice(choice: Result<u16, Refusal>) -> u64 {
-    match choice {
-        Ok(identity) => u64::from(identity),
-        Err(refusal) => u64::from(refusal.number()),
+// The bits of the position's x.
+impl Seen for NVector {
+    fn seen(self) -> u64 {
+        patterns::to_bits(self.as_vec3().x())
+    }
+}
+
+// An identity.
+impl Seen for u16 {
+    fn seen(self) -> u64 {
+        u64::from(self)
+    }
+}
+
+impl Seen for Refusal {
+    fn seen(self) -> u64 {
+        u64::from(self.number())
+    }
+}
+
+impl Seen for NoMean {
+    fn seen(self) -> u64 {
+        u64::from(self.number())
     }
 }
 
@@ -120,12 +144,12 @@ pub(crate) fn turns(start: Board, call: Call, count: u64) -> Run {
                     Change::Solve => solve(board, identity(turn)),
                 };
                 board = a.board;
-                seen = seen.wrapping_add(of_answer(a.answer));
+                seen = seen.wrapping_add(a.answer.seen());
             }
             Call::Asks(question) => {
                 let answer = match question {
-                    Question::Mean => of_mean(mean(board)),
-                    Question::Pick => of_choice(pick(board)),
+                    Question::Mean => mean(board).seen(),
+                    Question::Pick => pick(board).seen(),
                     Question::Total => u64::from(total(board)),
                 };
                 seen = seen.wrapping_add(answer);

@@ -66,10 +66,9 @@ pub(crate) fn end_of_line(s: &[u8]) -> usize
 
 // The length that the first line of s has if it is a frame, by the second digit of its kind. What it says is tested.
 fn likely_length(s: &[u8]) -> usize {
-    match s.get(1) {
-        Some(digit) => Kind::of_number(digit.wrapping_sub(b'0') as u64).map_or(0, Kind::digits),
-        None => 0,
-    }
+    s.get(1)
+        .and_then(|digit| Kind::of_number(digit.wrapping_sub(b'0') as u64))
+        .map_or(0, Kind::digits)
 }
 
 // The first line of s. Digits alone as far as a newline need no search for it.
@@ -77,15 +76,11 @@ pub(crate) fn line_at(s: &[u8]) -> LineSpan
     ensures { spec.SpansLine s.now result }
 {
     let n = likely_length(s);
-    if n < s.len() {
-        if s[n] == NEWLINE {
-            if hex_digits::all_digits(&s[..n]) {
-                return LineSpan {
-                    end: n,
-                    digits: true,
-                };
-            }
-        }
+    if n < s.len() && s[n] == NEWLINE && hex_digits::all_digits(&s[..n]) {
+        return LineSpan {
+            end: n,
+            digits: true,
+        };
     }
     let end = end_of_line(s);
     LineSpan {

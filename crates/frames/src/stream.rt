@@ -153,10 +153,8 @@ fn lines(s: Stream, xs: &[u8], page: &mut [u8]) -> Fed
     let mut entries = start.entries;
     let mut ids = start.ids;
     let mut at = 0;
-    let mut i = 0;
-    // A line's length is known once it is met, so no range and no iterator over xs gives the places where lines begin.
-    while i < xs.len() {
-        let rest = &xs[i..];
+    let mut rest = xs;
+    while !rest.is_empty() {
         let span = line_at(rest);
         let end = span.end;
         if waits(end, rest.len(), page.len() - at) {
@@ -184,9 +182,8 @@ fn lines(s: Stream, xs: &[u8], page: &mut [u8]) -> Fed
             }
         };
         at = put_reply_line(page, at, reply);
-        i += end + 1;
+        rest = &rest[end + 1..];
     }
-    let rest = &xs[i..];
     let end = end_of_line(rest);
     let line = joined(s.line, 0, &rest[..end]);
     Fed {
@@ -195,7 +192,7 @@ fn lines(s: Stream, xs: &[u8], page: &mut [u8]) -> Fed
             line,
             n: kept_of(0, end),
         },
-        used: i + end,
+        used: xs.len() - rest.len() + end,
         next: at,
     }
 }

@@ -13,11 +13,8 @@ use plain::line::Line;
 use vectors::vec3::Vec3;
 use walks::Outcome;
 
-// The kind in the reply to a line that is no frame, or comes before a board.
-const NO_KIND: u8 = 0xff;
-
-// The number in the reply to a line that is no frame, or comes before a board.
-const NO_FRAME: u8 = 1;
+// The digits of the reply to a line that is no frame, or comes before a board.
+const NOT_A_FRAME: u64 = 0xff01;
 
 // The digits of the longest reply, a line's.
 pub const MOST_REPLY_DIGITS: usize = 114;
@@ -66,13 +63,20 @@ pub enum Reply<K = Kind, R = Reason> {
 
 // The page and a place stay two parameters: in a struct the page would be lent within a lent value, `self.old.bytes.now` where a contract says `out.old`.
 
-// A kind and a number: four digits.
-fn put_two(out: &mut [u8], at: usize, kind: u8, number: u8) -> usize
-    requires { at + 4 ≤ length out.old }
-    ensures { Wrote out.old at 4 (spec.two kind number) out.new result }
+// The number in a reply: why it is refused, or 0.
+fn number_in<R: Byte>(why: Option<R>) -> u8
+    ensures { result ≡ spec.number_in R.byte why }
 {
-    let next = hex_digits::put_number(out, at, kind as u64, 2);
-    hex_digits::put_number(out, next, number as u64, 2)
+    why.map_or(0, R::byte)
+}
+
+// The kind of a reply, and the number of what it is refused for, 00 where it is not: four digits.
+fn put_head<K: Byte, R: Byte>(out: &mut [u8], at: usize, kind: K, why: Option<R>) -> usize
+    requires { at + 4 ≤ length out.old }
+    ensures { Wrote out.old at 4 (spec.head_digits K.byte R.byte kind why) out.new result }
+{
+    let next = hex_digits::put_number(out, at, kind.byte() as u64, 2);
+    hex_digits::put_number(out, next, number_in(why) as u64, 2)
 }
 
 // The 16 digits of a float's bits.
@@ -130,13 +134,11 @@ pub fn size<K: Byte, R: Byte>(reply: Reply<K, R>) -> usize
     ensures { result ≡ length (spec.digits_by K.byte R.byte reply) }
 {
     match reply {
-        Reply::Done(_) => 4,
-        Reply::Refused(_, _) => 4,
+        Reply::Done(_) | Reply::Refused(_, _) | Reply::NotAFrame => 4,
         Reply::Solved(_) => MOST_REPLY_DIGITS,
         Reply::Mean(_) => 52,
         Reply::Pick(_) => 8,
         Reply::Total(_) => 12,
-        Reply::NotAFrame => 4,
     }
 }
 
@@ -146,25 +148,25 @@ fn write<K: Byte, R: Byte>(out: &mut [u8], at: usize, reply: Reply<K, R>) -> usi
     ensures { Wrote out.old at (length (spec.digits_by K.byte R.byte reply)) (spec.digits_by K.byte R.byte reply) out.new result }
 {
     match reply {
-        Reply::Done(kind) => put_two(out, at, kind.byte(), 0),
-        Reply::Refused(kind, why) => put_two(out, at, kind.byte(), why.byte()),
+        Reply::Done(kind) => put_head(out, at, kind, None::<R>),
+        Reply::Refused(kind, why) => put_head(out, at, kind, Some(why)),
         Reply::Solved(line) => {
-            let next = put_two(out, at, Kind::Solve.number(), 0);
+            let next = put_head(out, at, Kind::Solve, None::<R>);
             put_line(out, next, line)
         }
         Reply::Mean(p) => {
-            let next = put_two(out, at, Kind::Mean.number(), 0);
+            let next = put_head(out, at, Kind::Mean, None::<R>);
             put_position(out, next, p)
         }
         Reply::Pick(identity) => {
-            let next = put_two(out, at, Kind::Pick.number(), 0);
+            let next = put_head(out, at, Kind::Pick, None::<R>);
             hex_digits::put_number(out, next, identity as u64, 4)
         }
         Reply::Total(total) => {
-            let next = put_two(out, at, Kind::Total.number(), 0);
+            let next = put_head(out, at, Kind::Total, None::<R>);
             hex_digits::put_number(out, next, total as u64, 8)
         }
-        Reply::NotAFrame => put_two(out, at, NO_KIND, NO_FRAME),
+        Reply::NotAFrame => hex_digits::put_number(out, at, NOT_A_FRAME, 4),
     }
 }
 

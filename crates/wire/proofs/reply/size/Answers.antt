@@ -1,13 +1,16 @@
 -- The digits of each reply, counted.
+use mathlib.Core.Logic.{inl, inr}
 use mathlib.Core.Path.{sym, ap, ◌∙◌}
 use Rattle.wire.proofs.Sizes.{size_of, size_is}
 use Rattle.wire.proofs.reply.size.Goals as goal
 
 pub returns-in-Done : goal.returns-in-Done
-returns-in-Done g c = sym (size_is _ _ _ ∙ ap size_of c.in-Done.is)
-
-pub returns-in-Refused : goal.returns-in-Refused
-returns-in-Refused g c = sym (size_is _ _ _ ∙ ap size_of c.in-Refused.is)
+returns-in-Done g c =
+    elim c.in-Done.is [
+      | inl (k, w) ↦ sym (size_is _ _ _ ∙ ap size_of w)
+      | inr (inl (k, q, w)) ↦ sym (size_is _ _ _ ∙ ap size_of w)
+      | inr (inr w) ↦ sym (size_is _ _ _ ∙ ap size_of w)
+    ]
 
 pub returns-in-Solved : goal.returns-in-Solved
 returns-in-Solved g c = sym (size_is _ _ _ ∙ ap size_of c.in-Solved.is)
@@ -20,6 +23,3 @@ returns-in-Pick g c = sym (size_is _ _ _ ∙ ap size_of c.in-Pick.is)
 
 pub returns-in-Total : goal.returns-in-Total
 returns-in-Total g c = sym (size_is _ _ _ ∙ ap size_of c.in-Total.is)
-
-pub returns-in-NotAFrame : goal.returns-in-NotAFrame
-returns-in-NotAFrame g c = sym (size_is _ _ _ ∙ ap size_of c.in-NotAFrame.is)
