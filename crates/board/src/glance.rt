@@ -77,10 +77,9 @@ pub fn glance(setting: Setting, ids: &[u16], call: Call) -> Option<Hint>
 {
     match call {
         Call::Report(identity, fix) => at_report(setting.count, ids, identity, fix),
-        Call::Withdraw(_) => None,
         Call::OwnShip(fix) => Some(at_setting(setting, call, fix_asked(fix))),
         Call::Track(start, end) => Some(at_setting(setting, call, ends_asked(start, end))),
-        Call::Solve(_) => None,
+        Call::Withdraw(_) | Call::Solve(_) => None,
     }
 }
 

@@ -69,10 +69,8 @@ pub fn pick(board: Board) -> Result<u16, Refusal>
     ensures { result ≡ asked.pick (plain board) }
 {
     let targets = board.targets;
-    match soonest(&targets.entries[..least(targets.count)]) {
-        None => Err(Refusal::NoMeeting),
-        Some(best) => Ok(best.identity),
-    }
+    let best = soonest(&targets.entries[..least(targets.count)]);
+    best.map(|best| best.identity).ok_or(Refusal::NoMeeting)
 }
 
 // The least meeting time of these targets, and the first of them that has it.
