@@ -74,7 +74,7 @@ pub fn pick(board: Board) -> Result<u16, Refusal>
 }
 
 // The least meeting time of these targets, and the first of them that has it.
-// A fold of `better` and `sooner`, no `min_by_key` over `filter_map`: of those the goal `returns` stayed open, for antt found no steps in what they ensure.
+// A fold of `better` and `sooner`, no `min_by_key` over `filter_map`: of those the goal `returns` stayed open, for antt found no closure in what `min_by_key` ensures.
 fn soonest(targets: &[Target]) -> Option<Best>
     ensures { result ≡ fold spec.better None targets.now }
 {
