@@ -1,10 +1,12 @@
 -- A search of the entries, and the change of the array that each call makes: it stands for the plain board's targets after the call.
-use Rattle.std.specs.Prelude.{Option, Some, None, Result, Ok, Err, is_ok}
+use Rattle.std.specs.Prelude.{Option, Some, None, Result, Ok, Err, is_ok, MatchOption, MatchResult, IsSomeAnd}
+use Rattle.std.specs.Result.{result_ok}
+use mathlib.Core.Logic.{◌⊎◌, inl, inr}
 use Prim.Native.Nat.{ℕ}
 use mathlib.Core.Bool.{true}
 use mathlib.Core.List.{List, map}
 use mathlib.Core.Path.{◌≡◌, refl, sym, ap, ◌∙◌}
-use lib.ListN.{length, take}
+use lib.ListN.{length, take, get_or}
 use Rattle.plain.specs.declared.targets.Held.{Held}
 use Rattle.plain.specs.declared.targets.Target.{Target}
 use Rattle.plain.specs.declared.targets.Targets.{Targets}
@@ -24,7 +26,8 @@ use Rattle.plain.specs.Board.{Plain, answer, after, accepted, targets_after, put
 use Rattle.plain.specs.Code.{plain, cut}
 use Rattle.plain.specs.History.{accepts}
 use Rattle.board.specs.Change.{name_of, Seeks, answer_by, entries_after, count_after, changed, Within, placing, RightChange}
-use Rattle.targets.proofs.Arrays.{held_below}
+use Rattle.targets.proofs.Arrays.{absent, held_below}
+use Rattle.targets.proofs.Spots.{stands_at, belongs-at}
 use Rattle.targets.proofs.Slots.{stored_is, inserted-is, removed-is, removed-not, take-bared, counted_is, removed-fits, bared-fits, absent-fits}
 use Rattle.questions.proofs.Chains.{ask-fix, ask-ends}
 use Rattle.plain.proofs.Listed.{at-most-le, at-most-same}
@@ -88,7 +91,31 @@ solve-changes i a s h ts full q e =
     let p = placed i (with_line a h) s ts full q in
     (p.0, p.1 ∙ ap (λ (y : Option Held). take most_targets (place i (lined a y) (listed ts))) e)
 
+-- an own ship or a track takes every line away
+pub swept-changes : (c : Call) (a : Answer) (s : Result ℕ ℕ) (x : Option Held)
+    → ((f : Fix) × (c ≡ OwnShip f)) ⊎ ((b : Coordinates) × (d : Coordinates) × (c ≡ Track b d)) → RightChange c a s x Sweeps
+swept-changes c a s x (inl (f, e)) = rw e (own-sweeps f a s x)
+swept-changes c a s x (inr (b, d, e)) = rw e (track-sweeps b d a s x)
+
+-- a withdrawal takes out what stands at its spot
+pub removed : (i : ℕ) (a : Answer) (s : Result ℕ ℕ) (x : Option Held) (r : Change) → MatchResult s (λ p. r ≡ Removes p) (λ e. r ≡ Stays) → RightChange (Withdraw i) a s x r
+removed i a (Ok p) x r e = rw e (withdraw-removes i a p x)
+removed i a (Err p) x r e = rw e (withdraw-stays i a p x)
+
+-- a solve stores the target that is held, with its line
+pub solved-changes : (i : ℕ) (a : Answer) (s : Result ℕ ℕ) (x : Option Held) (r : Change)
+    → MatchOption x (r ≡ Stays) (λ h. r ≡ placing s (record { identity = i; held = with_line a h })) → RightChange (Solve i) a s x r
+solved-changes i a s None r e = rw e (solve-stays i a s)
+solved-changes i a s (Some h) r e = rw e (solve-changes i a s h)
+
 -- ---- a call of the code
+
+-- what is held at the place that a search gives is what is held under the identity
+pub held-found : (l : List Target) (x : ℕ) (s : Result ℕ ℕ) (f : Option Held) → s ≡ spot_from 0 x l
+    → MatchOption (result_ok s) (f ≡ None) (λ p. IsSomeAnd f (λ h. h ≡ (get_or l p absent).held)) → f ≡ find x l
+held-found l x (Ok p) (Some h) e m = rw m (sym (stands_at x l p (sym e)).looked)
+held-found l x (Ok p) None e m = elim m [ ]
+held-found l x (Err p) f e m = m ∙ sym (belongs-at x l p (sym e)).looked
 
 -- the search is one of the plain board's targets
 pub sought-is : (ts : Targets) (n x y : ℕ) (r : Sought) → Seeks (take n ts.entries) x r → n ≡ at_most ts.count → x ≡ y → length ts.entries ≡ most_targets

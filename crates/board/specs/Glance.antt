@@ -40,7 +40,9 @@ pub record Turns (b : Board) (c : Call) (a : Answer) (left : Board) : Type 0 whe
 -- what is told holds of every board of the setting whose targets have the identities; that nothing is told is always right
 unfoldable pub Glanced : Setting → List ℕ → Call → Option Hint → Type 0
 Glanced s ids c (Some (Stays a)) = (es : List Target) → Under s ids es → Turns (board_of s es) c a (board_of s es)
-Glanced s ids c (Some (Puts p t)) = (es : List Target) → Under s ids es → (p < most_targets) × Under s ids (set es p t) × Turns (board_of s es) c (Ok None) (board_of s (set es p t))
+Glanced s ids c (Some (Puts p t)) =
+    (es : List Target) → Under s ids es
+    → (p < most_targets) × Under s ids (set es p t) × Turns (board_of s es) c (Ok None) (board_of s (set es p t))
 Glanced s ids c (Some (Sweeps q)) =
     (es : List Target) → Under s ids es → Under q ids (map bare_target es) × Turns (board_of s es) c (Ok None) (board_of q (map bare_target es))
 Glanced s ids c None = Unit {0}

@@ -212,10 +212,7 @@ fn seek_in(among: &[Target], identity: u16) -> Sought
     ensures { code.Seeks among.now identity result }
 {
     let spot = seek(among, identity);
-    let found = match spot {
-        Ok(p) => Some(among[p].held),
-        Err(_) => None,
-    };
+    let found = spot.ok().map(|p| among[p].held);
     Sought { spot, found }
 }
 
@@ -231,19 +228,12 @@ fn change_of(call: Call, answer: Answer, spot: Result<usize, usize>, found: Opti
             };
             placing(spot, Target { identity, held })
         }
-        Call::Withdraw(_) => match spot {
-            Ok(p) => Change::Removes(p),
-            Err(_) => Change::Stays,
-        },
-        Call::OwnShip(_) => Change::Sweeps,
-        Call::Track(_, _) => Change::Sweeps,
-        Call::Solve(identity) => match found {
-            None => Change::Stays,
-            Some(held) => {
-                let held = with_line(answer, held);
-                placing(spot, Target { identity, held })
-            }
-        },
+        Call::Withdraw(_) => spot.map_or(Change::Stays, |p| Change::Removes(p)),
+        Call::OwnShip(_) | Call::Track(_, _) => Change::Sweeps,
+        Call::Solve(identity) => found.map_or(Change::Stays, |held| {
+            let held = with_line(answer, held);
+            placing(spot, Target { identity, held })
+        }),
     }
 }
 

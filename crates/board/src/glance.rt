@@ -20,6 +20,7 @@ pub struct Setting {
     pub radius: f64,
     pub own: Option<Vehicle>,
     pub track: Option<Ends>,
+    // Beside the identities that are lent with a setting, no slice of them in it: who holds both keeps a setting next to what the slice would lend.
     pub count: usize,
     pub total: u32,
 }
@@ -71,16 +72,16 @@ pub fn board_of(setting: Setting, entries: [Target; MOST_TARGETS]) -> Board
 }
 
 // What a call makes of every board of this setting whose targets have these identities; none where the entries have to be looked at.
+// Setting and identities stay two parameters: no other function takes this pair, for a report needs the count alone, and a look has a setting or none.
 pub fn glance(setting: Setting, ids: &[u16], call: Call) -> Option<Hint>
     ensures value { result ≡ spec.glance setting ids.now call }
     ensures unchanged { ids.exit.now ≡ ids.entry.now }
 {
     match call {
         Call::Report(identity, fix) => at_report(setting.count, ids, identity, fix),
-        Call::Withdraw(_) => None,
         Call::OwnShip(fix) => Some(at_setting(setting, call, fix_asked(fix))),
         Call::Track(start, end) => Some(at_setting(setting, call, ends_asked(start, end))),
-        Call::Solve(_) => None,
+        Call::Withdraw(_) | Call::Solve(_) => None,
     }
 }
 

@@ -8,3 +8,4 @@ pub mod History
 pub mod Exchange
 pub mod Demand3
 pub mod Code
+pub mod Table

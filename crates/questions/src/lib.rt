@@ -96,7 +96,7 @@ pub fn fix_asked(fix: Fix) -> Result<(), Refusal>
     speed_asked(fix)
 }
 
-// The ends of a track stay two parameters below: document 01 hands over two positions, and `Call::Track` holds two.
+// The ends of a track stay two parameters below: document 01 hands a track over as two positions, and `Ends` is what is made of them.
 
 // Are all numbers of the two positions finite?
 fn ends_finite_asked(start: Coordinates, end: Coordinates) -> Result<(), Refusal>

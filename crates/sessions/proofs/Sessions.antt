@@ -1,8 +1,8 @@
 -- A session that has a board or none, and what each frame makes of it.
-use Rattle.std.specs.Prelude.{Option, Some, None, Ok, Err}
+use Rattle.std.specs.Prelude.{Option, Some, None, Ok, Err, MatchOption, option_map}
 use mathlib.Core.Path.{◌≡◌, refl, sym, ◌∙◌, ap}
 use lib.Ieee.{Float}
-use Rattle.plain.specs.Board.{begins, fresh, answer, after}
+use Rattle.plain.specs.Board.{Plain, begins, fresh, answer, after}
 use Rattle.plain.specs.Code.{plain, Demanded}
 use Rattle.plain.specs.declared.state.Answered.{Answered}
 use Rattle.plain.specs.declared.state.Board.{Board}
@@ -66,6 +66,15 @@ heard s c {r = r} on a h k e =
 pub asked : (s : Session) (g : Option Frame) {f : Option Frame} {y : Reply Kind Reason} → f ≡ g → y ≡ reply_of (plain_of s) g → plain_of s ≡ next (plain_of s) g
     → Stepping s f (record { session = s; reply = y })
 asked s g e h k = record { reply_is = h ∙ ap (reply_of (plain_of s)) (sym e); session_is = k ∙ ap (next (plain_of s)) (sym e) }
+
+-- the reply to what is asked of a board, or number 1 where there is none
+pub asked-of : (s : Session) (f : Plain → Reply Kind Reason) {y : Reply Kind Reason} → MatchOption s.board (y ≡ reply.NotAFrame) (λ b. y ≡ f (plain b)) → y ≡ if_started (plain_of s) f
+unfolding plain_of if_started
+asked-of s f {y} m = go s.board m
+  where
+    go : (o : Option Board) → MatchOption o (y ≡ reply.NotAFrame) (λ b. y ≡ f (plain b)) → y ≡ if_started (option_map plain o) f
+    go None h = h
+    go (Some b) h = h
 
 pub no-frame : (s : Session) {f : Option Frame} → f ≡ None → Stepping s f (record { session = s; reply = reply.NotAFrame })
 unfolding reply_of next

@@ -26,13 +26,13 @@ pub fn look(setting: Option<Setting>, ids: &[u16], frame: Option<Frame>) -> Opti
     ensures value { result ≡ spec.look setting ids.now frame }
     ensures unchanged { ids.exit.now ≡ ids.entry.now }
 {
-    match frame {
-        Some(Frame::Fresh(_)) => None,
-        Some(Frame::Told(call)) => at_call(setting, ids, call),
-        Some(Frame::Mean) => None,
-        Some(Frame::Pick) => None,
-        Some(Frame::Total) => Some(Quick::Stays(total_reply(setting))),
-        None => Some(Quick::Stays(Reply::NotAFrame)),
+    let Some(asked) = frame else {
+        return Some(Quick::Stays(Reply::NotAFrame));
+    };
+    match asked {
+        Frame::Fresh(_) | Frame::Mean | Frame::Pick => None,
+        Frame::Told(call) => at_call(setting, ids, call),
+        Frame::Total => Some(Quick::Stays(total_reply(setting))),
     }
 }
 
@@ -40,10 +40,7 @@ pub fn look(setting: Option<Setting>, ids: &[u16], frame: Option<Frame>) -> Opti
 fn total_reply(setting: Option<Setting>) -> Reply
     ensures { result ≡ spec.total_reply setting }
 {
-    match setting {
-        Some(s) => Reply::Total(s.total),
-        None => Reply::NotAFrame,
-    }
+    setting.map_or(Reply::NotAFrame, |s| Reply::Total(s.total))
 }
 
 // What a call makes of every session of this setting whose targets have these identities.

@@ -110,38 +110,6 @@ fn pick_told(choice: Result<u16, Refusal>) -> Reply
     }
 }
 
-// Three matches that differ in what is asked: of one function over a closure, or of `map_or`, the proof did not close.
-
-// The reply to a frame that asks for the mean position, ff01 where no board has been started.
-fn ask_mean(s: Session) -> Reply
-    ensures { result ≡ spec.reply_of (spec.plain_of s) (Some Frame.Mean) }
-{
-    match s.board {
-        Some(board) => mean_told(mean(board)),
-        None => Reply::NotAFrame,
-    }
-}
-
-// The reply to a frame that asks for a pick, ff01 where no board has been started.
-fn ask_pick(s: Session) -> Reply
-    ensures { result ≡ spec.reply_of (spec.plain_of s) (Some Frame.Pick) }
-{
-    match s.board {
-        Some(board) => pick_told(pick(board)),
-        None => Reply::NotAFrame,
-    }
-}
-
-// The reply to a frame that asks for the total of steps, ff01 where no board has been started.
-fn ask_total(s: Session) -> Reply
-    ensures { result ≡ spec.reply_of (spec.plain_of s) (Some Frame.Total) }
-{
-    match s.board {
-        Some(board) => Reply::Total(total(board)),
-        None => Reply::NotAFrame,
-    }
-}
-
 // What a line makes of a session, and its reply: the frame that it is, if it is one.
 pub fn step(s: Session, frame: Option<Frame>) -> Stepped
     ensures { spec.Stepping s frame result }
@@ -151,15 +119,15 @@ pub fn step(s: Session, frame: Option<Frame>) -> Stepped
         Some(Frame::Told(call)) => tell(s, call),
         Some(Frame::Mean) => Stepped {
             session: s,
-            reply: ask_mean(s),
+            reply: s.board.map_or(Reply::NotAFrame, |board| mean_told(mean(board))),
         },
         Some(Frame::Pick) => Stepped {
             session: s,
-            reply: ask_pick(s),
+            reply: s.board.map_or(Reply::NotAFrame, |board| pick_told(pick(board))),
         },
         Some(Frame::Total) => Stepped {
             session: s,
-            reply: ask_total(s),
+            reply: s.board.map_or(Reply::NotAFrame, |board| Reply::Total(total(board))),
         },
         None => Stepped {
             session: s,

@@ -1,5 +1,6 @@
 -- The least of the meeting times, one target after the other, the earlier kept among equals, is the pick.
-use Rattle.std.specs.Prelude.{fold, Option, Some, None, Ok, Err}
+use Rattle.std.specs.Prelude.{fold, Option, Some, None, Ok, Err, MatchOption, IsSomeAnd}
+use Rattle.std.specs.Option.{ok_or}
 use Prim.Native.Nat.{ℕ, ◌<◌, min}
 use native.Mathlib.Omega.{arith}
 use native.Mathlib.Nat.{min-eq_left, min-eq_right}
@@ -109,12 +110,19 @@ loop-tells : (l : List Target) (b : Option Best) → fold better None l ≡ b �
 unfolding join
 loop-tells l b e = subst (Tells l) (sym (fold-best None l) ∙ e) (tells l)
 
-pub picked_none : (l : List Target) → fold better None l ≡ None → Err NoMeeting ≡ pick_of l
+picked_none : (l : List Target) → fold better None l ≡ None → Err NoMeeting ≡ pick_of l
 unfolding pick_of
 picked_none l e = sym (ap (λ (o : Option ℕ). pick_at o l) (loop-tells l None e))
 
-pub picked-one : (l : List Target) (b : Best) → fold better None l ≡ Some b → Ok b.identity ≡ pick_of l
+picked-one : (l : List Target) (b : Best) → fold better None l ≡ Some b → Ok b.identity ≡ pick_of l
 unfolding pick_of
 picked-one l b e =
     let h = loop-tells l (Some b) e in
     sym (ap (λ (o : Option ℕ). pick_at o l) h.0 ∙ h.1)
+
+-- the identity of the best, or the refusal where there is none, is the pick
+pub picked : (l : List Target) (b : Option Best) (o : Option ℕ) → b ≡ fold better None l → MatchOption b (o ≡ None) (λ x. IsSomeAnd o (λ i. i ≡ x.identity))
+    → ok_or o NoMeeting ≡ pick_of l
+picked l None o e m = rw m (picked_none l (sym e))
+picked l (Some b) None e m = elim m [ ]
+picked l (Some b) (Some i) e m = rw m (picked-one l b (sym e))

@@ -69,13 +69,12 @@ pub fn pick(board: Board) -> Result<u16, Refusal>
     ensures { result ≡ asked.pick (plain board) }
 {
     let targets = board.targets;
-    match soonest(&targets.entries[..least(targets.count)]) {
-        None => Err(Refusal::NoMeeting),
-        Some(best) => Ok(best.identity),
-    }
+    let best = soonest(&targets.entries[..least(targets.count)]);
+    best.map(|best| best.identity).ok_or(Refusal::NoMeeting)
 }
 
 // The least meeting time of these targets, and the first of them that has it.
+// A fold of `better` and `sooner`, no `min_by_key` over `filter_map`: of those the goal `returns` stayed open, for antt found no closure in what `min_by_key` ensures.
 fn soonest(targets: &[Target]) -> Option<Best>
     ensures { result ≡ fold spec.better None targets.now }
 {

@@ -18,7 +18,7 @@ pub mod asking;
 const LAST: usize = MOST_TARGETS - 1;
 
 // What a search for an identity gives: the place where it stands, or as an error that where it would, and what is held under it.
-// Two fields, for the questions read what is held and the change reads the place.
+// A struct of two, no `Result` that holds what is held beside its place: the questions take what is held as an `Option`, and the change takes both.
 #[derive(Clone, Copy)]
 pub struct Sought {
     pub spot: Result<usize, usize>,
@@ -107,6 +107,7 @@ fn first_from<T: Named>(among: &[T], identity: u16) -> Option<usize>
 }
 
 // Where an identity stands among these, in their order, or as an error before which it would.
+// From the first on, for it asks no order of what it is lent: of a list that does not rise, std's `binary_search_by_key` gives another answer.
 pub fn seek<T: Named>(among: &[T], identity: u16) -> Result<usize, usize>
     ensures value { result ≡ spec.spot_in 0 identity (map T.name among.now) }
     ensures unchanged { among.exit.now ≡ among.entry.now }

@@ -1,26 +1,19 @@
 -- `seek_in` meets its contract.
-use Rattle.std.proofs.Common.{arith, sym, ◌∙◌}
+use Rattle.std.proofs.Common.{rules, arith, sym, ◌∙◌, ◌<◌, ◌≡◌, ℕ, length, Ok, Some, Result}
+use Rattle.std.proofs.iter.Serving.{serving}
+use Rattle.std.specs.Result.{result_ok}
 use Rattle.targets.proofs.Arrays.{held-within}
-use Rattle.targets.proofs.Spots.{stands_at, belongs-at}
 use Rattle.targets.specs.Slots.{spot_from}
+use Rattle.board.proofs.Changes.{held-found}
 use Rattle.board.proofs.board.seek_in.Goals as goal
 
-pub returns-in-Ok : goal.returns-in-Ok
+pub returns : goal.returns
 unfolding spot_from
-returns-in-Ok c =
-    let at = sym c.in-Ok.is ∙ c.seek-spot.ensures.value in
-    record { spot_is = at; found_is = sym (stands_at c.args.identity c.args.among.now c.in-Ok.p (sym at)).looked }
+returns c = record { spot_is = c.seek-spot.ensures.value; found_is = held-found c.args.among.now c.args.identity c.seek-spot.result c.map-found.result c.seek-spot.ensures.value (search rules) }
 
-pub returns-in-Err : goal.returns-in-Err
+pub map-found-requires : goal.map-found-requires
 unfolding spot_from
-returns-in-Err c =
-    let at = sym c.in-Err.is ∙ c.seek-spot.ensures.value in
-    record { spot_is = c.seek-spot.ensures.value; found_is = sym (belongs-at c.args.identity c.args.among.now _ (sym at)).looked }
-
-pub offset_bounds-among-p : goal.offset_bounds-among-p
-unfolding spot_from
-offset_bounds-among-p c = omega (arith, held-within 0 c.args.identity c.args.among.now c.in-Ok.p (sym c.seek-spot.ensures.value ∙ c.in-Ok.is))
-
-pub bounds-among-p : goal.bounds-among-p
-unfolding spot_from
-bounds-among-p c = omega (arith, held-within 0 c.args.identity c.args.among.now c.in-Ok.p (sym c.seek-spot.ensures.value ∙ c.in-Ok.is))
+map-found-requires c = λ x e.
+    let at : c.seek-spot.result ≡ Ok x = search rules in
+    let w = held-within 0 c.args.identity c.args.among.now x (sym c.seek-spot.ensures.value ∙ at) in
+    grind (serving, arith, w)

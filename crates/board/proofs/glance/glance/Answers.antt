@@ -1,4 +1,5 @@
 -- `glance` meets its contract, call by call.
+use mathlib.Core.Logic.{inl, inr}
 use mathlib.Core.Path.{◌∙◌}
 use Rattle.board.specs.Glance.{glance}
 use Rattle.board.proofs.glance.glance.Goals as goal
@@ -6,10 +7,6 @@ use Rattle.board.proofs.glance.glance.Goals as goal
 pub returns-in-Report-clause-value : goal.returns-in-Report-clause-value
 unfolding glance
 returns-in-Report-clause-value c = rw c.in-Report.is c.at_report.ensures
-
-pub returns-in-Withdraw-clause-value : goal.returns-in-Withdraw-clause-value
-unfolding glance
-returns-in-Withdraw-clause-value c = rw c.in-Withdraw.is
 
 pub returns-in-OwnShip-clause-value : goal.returns-in-OwnShip-clause-value
 unfolding glance
@@ -19,6 +16,9 @@ pub returns-in-Track-clause-value : goal.returns-in-Track-clause-value
 unfolding glance
 returns-in-Track-clause-value c = c.at_setting-in-Track.ensures ∙ rw (c.in-Track.is, c.ends_asked.ensures)
 
-pub returns-in-Solve-clause-value : goal.returns-in-Solve-clause-value
+pub returns-in-Withdraw-clause-value : goal.returns-in-Withdraw-clause-value
 unfolding glance
-returns-in-Solve-clause-value c = rw c.in-Solve.is
+returns-in-Withdraw-clause-value c = elim c.in-Withdraw.is [
+  | inl z ↦ rw z.1
+  | inr z ↦ rw z.1
+]
