@@ -4,10 +4,9 @@ ghost use Rattle.patterns.specs.Operators.{◌⊗◌};
 ghost use Rattle.float.specs.Once as once;
 ghost use Rattle.float.specs.Trig as spec;
 
-pub use std::f64::consts::PI;
-
 use patterns::{magnitude, sign_bit};
 use remainders::rem;
+pub use std::f64::consts::PI;
 
 // Above this ratio, near the tangent of PI / 8, the arc is taken from PI / 4.
 const ARC_BOUND: f64 = 0.4140625;

@@ -84,6 +84,7 @@ fn number_by<F: Fn(u8) -> u64>(s: &[u8], n: usize, digit: F) -> u64
     ensures { (f : ℕ → ℕ) (g : List ℕ → ℕ → ℕ → ℕ) → Reads f g → ((b d : ℕ) → F.post digit b d → d ≡ f b) → result ≡ g s.now 0 n }
 {
     let mut v = 0;
+    // A `fold` over the bytes and zeros after them leaves the goal `fold-requires-clause-callable` open: that no turn of it overflows.
     for i in 0..n {
         v = v * 16 + digit(s.get(i).copied().unwrap_or(0));
     }
@@ -134,6 +135,7 @@ pub fn sixteen_at(s: &[u8], at: usize) -> u64
     ensures value { result ≡ lows_in s.now at 16 }
     ensures unchanged { s.exit.now ≡ s.entry.now }
 {
+    // Not one with `two_at`, over a const width and a reader of each half: the checker does not cover a bound `Fn` that names a const parameter.
     let [high, rest, ..] = tail(s, at).as_chunks::<8>().0 else {
         return 0;
     };
