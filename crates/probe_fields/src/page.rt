@@ -1,4 +1,4 @@
-// The page that results are written over. Where it has no room, nothing is written.
+// The page that results are written over. A piece for which it has no room is not written.
 ghost use Rattle.std.specs.Prelude.{◌≡◌, ◌-◌, ℕ, List, [], ◌∷◌, length, min, take};
 ghost use Rattle.hex_digits.specs.Hex.{digits};
 ghost use Rattle.hex_digits.specs.Write.{Put};

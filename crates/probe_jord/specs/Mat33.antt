@@ -6,6 +6,7 @@ use Rattle.probe_fields.specs.Args.{mat33, pass3, pass9, vec3}
 use Rattle.probe_fields.specs.Fields as fields
 use Rattle.probe_fields.specs.declared.args.Args.{Args}
 
+-- what a call of each comes to: its fields, and the arguments that are left
 unfoldable pub matrices : ℕ → Args → Option Answered
 matrices f a =
     cond (eqb f 0x41) (gives (fields.mat33 (mat33s.transpose (mat33 a))) (pass9 a))

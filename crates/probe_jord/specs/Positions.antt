@@ -6,6 +6,7 @@ use Rattle.probe_fields.specs.Args.{angle, float, nvector, pass, pass3, pass5, v
 use Rattle.probe_fields.specs.Fields as fields
 use Rattle.probe_fields.specs.declared.args.Args.{Args}
 
+-- what a call of each comes to: its fields, and the arguments that are left
 unfoldable pub positions_of : ℕ → Args → Option Answered
 positions_of f a =
     cond (eqb f 0x50) (gives (fields.lat_long (positions.from_degrees (float a) (float (pass a)))) (pass (pass a)))

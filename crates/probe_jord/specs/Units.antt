@@ -8,6 +8,7 @@ use Rattle.probe_fields.specs.Args.{angle, float, length_of, pass, speed, whole}
 use Rattle.probe_fields.specs.Fields as fields
 use Rattle.probe_fields.specs.declared.args.Args.{Args}
 
+-- what a call of each comes to: its fields, and the arguments that are left
 unfoldable pub units : ℕ → Args → Option Answered
 units f a =
     cond (eqb f 0x14) (gives (fields.angle (angles.from_degrees (float a))) (pass a))

@@ -6,6 +6,7 @@ use Rattle.probe_fields.specs.Args.{float, pass, pass3, vec3}
 use Rattle.probe_fields.specs.Fields as fields
 use Rattle.probe_fields.specs.declared.args.Args.{Args}
 
+-- what a call of each comes to: its fields, and the arguments that are left
 unfoldable pub vectors : ℕ → Args → Option Answered
 vectors f a =
     cond (eqb f 0x30) (gives (fields.vec3 (vec3 a)) (pass3 a))

@@ -7,6 +7,7 @@ use Rattle.probe_fields.specs.Args.{angle, nvector, pass, pass3, vec3}
 use Rattle.probe_fields.specs.Fields as fields
 use Rattle.probe_fields.specs.declared.args.Args.{Args}
 
+-- what a call of each comes to: its fields, and the arguments that are left
 unfoldable pub great_circles : ℕ → Args → Option Answered
 great_circles f a =
     cond (eqb f 0x60) (gives (fields.float (base.angle_radians_between (vec3 a) (vec3 (pass3 a)))) (pass3 (pass3 a)))

@@ -21,9 +21,11 @@ sphere_of a = sphere.new (length_of a)
 abbrev pub offset : Sphere → NVector → NVector → NVector → Length
 offset s p start end = sphere.cross_track_distance s p (great_circle.new start end)
 
+-- the same, of a radius and three positions
 abbrev pub cross_track : Args → Length
 cross_track a = offset (sphere_of a) (nvector (pass a)) (nvector (pass3 (pass a))) (nvector (pass3 (pass3 (pass a))))
 
+-- past a radius and three positions
 abbrev pub past_cross_track : Args → Args
 past_cross_track a = pass3 (pass3 (pass3 (pass a)))
 
@@ -31,6 +33,7 @@ past_cross_track a = pass3 (pass3 (pass3 (pass a)))
 abbrev pub meeting : Args → Outcome
 meeting a = sphere.time_to_intercept (sphere_of a) (nvector (pass a)) (speed (pass3 (pass a))) (vehicle (pass (pass3 (pass a))))
 
+-- past a radius, a position, a speed and a vehicle
 abbrev pub past_meeting : Args → Args
 past_meeting a = pass5 (pass (pass3 (pass a)))
 
@@ -49,13 +52,16 @@ line_of s own p start end target =
 abbrev pub target_of : Args → Vehicle
 target_of a = vehicle (pass3 (pass3 (pass5 (pass a))))
 
+-- the line of radius, own ship, the track's ends and target
 abbrev pub solve : Args → List (List ℕ)
 solve a =
     line_of (sphere_of a) (vehicle (pass a)) (vehicles.position (target_of a)) (nvector (pass5 (pass a))) (nvector (pass3 (pass5 (pass a)))) (target_of a)
 
+-- past these
 abbrev pub past_solve : Args → Args
 past_solve a = pass5 (pass3 (pass3 (pass5 (pass a))))
 
+-- what a call of each comes to: its fields, and the arguments that are left
 unfoldable pub sphere_calls : ℕ → Args → Option Answered
 sphere_calls f a =
     cond (eqb f 0x70) (gives (fields.bool (sphere.is_great_circle (nvector a) (nvector (pass3 a)))) (pass3 (pass3 a)))

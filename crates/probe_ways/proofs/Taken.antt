@@ -1,5 +1,5 @@
 -- Fields read one after another are those that a line has from the place on.
-use Rattle.std.proofs.Common.{◌≡◌, ℕ, zero, suc, ◌+◌, ◌<◌, Float, List, [], ◌∷◌, ◌++◌, length, take, slice_set, refl, ap, sym, ◌∙◌, add-one, arith}
+use Rattle.std.proofs.Common.{◌≡◌, ℕ, zero, suc, ◌+◌, ◌<◌, Float, List, [], ◌∷◌, ◌++◌, length, take, slice_set, refl, ap, sym, ◌∙◌, add-one}
 use Rattle.std.proofs.Math.Seq.{take-suc-set}
 use Rattle.jord.specs.declared.positions.NVector.{NVector}
 use Rattle.probe_fields.specs.Args.{float, nvector, pass, pass3, pass_rest}
@@ -29,7 +29,8 @@ rest-past zero a = refl
 rest-past (suc n) a = rest-past n (pass3 a)
 
 -- one float more
-pub float-next : (i : ℕ) (a b d : Args) (xs : List Float) (x : Float) → i < length xs → b ≡ past_floats i a → take i xs ≡ floats i a → x ≡ float b → d ≡ pass b
+pub float-next : (i : ℕ) (a b d : Args) (xs : List Float) (x : Float) → i < length xs → b ≡ past_floats i a
+    → take i xs ≡ floats i a → x ≡ float b → d ≡ pass b
     → (d ≡ past_floats (i + 1) a) × (take (i + 1) (slice_set xs i x) ≡ floats (i + 1) a)
 float-next i a b d xs x h p t v e =
     rw (add-one i) (
@@ -38,7 +39,8 @@ float-next i a b d xs x h p t v e =
     )
 
 -- one position more
-pub position-next : (i : ℕ) (a b d : Args) (xs : List NVector) (x : NVector) → i < length xs → b ≡ past_positions i a → take i xs ≡ positions i a → x ≡ nvector b → d ≡ pass3 b
+pub position-next : (i : ℕ) (a b d : Args) (xs : List NVector) (x : NVector) → i < length xs → b ≡ past_positions i a
+    → take i xs ≡ positions i a → x ≡ nvector b → d ≡ pass3 b
     → (d ≡ past_positions (i + 1) a) × (take (i + 1) (slice_set xs i x) ≡ positions (i + 1) a)
 position-next i a b d xs x h p t v e =
     rw (add-one i) (

@@ -39,6 +39,7 @@ coordinates a = min (left a) most_arguments
 abbrev pub places : Args → ℕ
 places a = min (left a / 3) (most_arguments / 3)
 
+-- what a call of each comes to: its fields, and the arguments that are left
 unfoldable pub mean_calls : ℕ → Args → Option Answered
 mean_calls f a =
     cond (eqb f 0x79) (gives (fields.result fields.nvector fields.no_mean (means.mean_position (floats (coordinates a) a))) (past_floats (coordinates a) a))

@@ -28,15 +28,19 @@ minor_arc a = minor_arcs.new (nvector a) (nvector (pass3 a))
 abbrev pub destination : Args → NVector
 destination a = sphere.destination_position (sphere_of a) (nvector (pass a)) (angle (pass3 (pass a))) (length_of (pass (pass3 (pass a))))
 
+-- past a radius, a position, a bearing and a distance
 abbrev pub past_destination : Args → Args
 past_destination a = pass (pass (pass3 (pass a)))
 
+-- the position at an angle from the first of two positions, on their great circle
 abbrev pub on_great_circle : Args → NVector
 on_great_circle a = sphere.position_on_great_circle (nvector a) (nvector (pass3 a)) (angle (pass6 a))
 
+-- the position between two, at a fraction of the way
 abbrev pub interpolated : Args → Interpolated
 interpolated a = sphere.interpolated_position (nvector a) (nvector (pass3 a)) (float (pass6 a))
 
+-- the mean of three positions
 abbrev pub triangle_mean : Args → Mean
 triangle_mean a = means.triangle_mean_position (nvector a) (nvector (pass3 a)) (nvector (pass6 a))
 
@@ -44,9 +48,11 @@ triangle_mean a = means.triangle_mean_position (nvector a) (nvector (pass3 a)) (
 abbrev pub radii : Args → (Length × Length × Length)
 radii a = (sphere.radius (sphere_of a), sphere.radius sphere.EARTH, sphere.radius sphere.MOON)
 
+-- the three radii as they are written
 abbrev pub put_radii : (Length × Length × Length) → List (List ℕ)
 put_radii (l, m, n) = fields.spaced (fields.spaced (fields.length l) (fields.length m)) (fields.length n)
 
+-- what a call of each comes to: its fields, and the arguments that are left
 unfoldable pub ways : ℕ → Args → Option Answered
 ways f a =
     cond (eqb f 0x80) (gives (fields.nvector (great_circles.projection (great_circle a) (nvector (pass6 a)))) (pass3 (pass6 a)))
@@ -59,7 +65,7 @@ ways f a =
     (cond (eqb f 0x87) (gives (fields.nvector (on_great_circle a)) (pass (pass6 a)))
     (cond (eqb f 0x88) (gives (fields.result fields.nvector fields.outside (interpolated a)) (pass (pass6 a)))
     (cond (eqb f 0x89) (gives (fields.result fields.nvector fields.no_mean (triangle_mean a)) (pass9 a))
-    (cond (eqb f 0x8a) (gives (fields.angle (sphere.turn (nvector a) (nvector (pass3 a)) (nvector (pass3 (pass3 a))))) (pass3 (pass3 (pass3 a))))
+    (cond (eqb f 0x8a) (gives (fields.angle (sphere.turn (nvector a) (nvector (pass3 a)) (nvector (pass6 a)))) (pass9 a))
     (cond (eqb f 0x8b) (gives (fields.nvector (sphere.position_after (sphere_of a) (vehicle (pass a)) (whole (pass5 (pass a))))) (pass (pass5 (pass a))))
     (cond (eqb f 0x8c) (gives (put_radii (radii a)) (pass a))
     None))))))))))))

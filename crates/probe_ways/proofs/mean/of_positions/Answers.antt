@@ -8,7 +8,8 @@ use Rattle.probe_ways.proofs.mean.of_positions.Goals as goal
 pub loop-p-preserved : goal.loop-p-preserved
 loop-p-preserved c =
     let inv = c.loop-p.invariant in
-    position-next c.loop-p.p-index c.args.args.now c.loop-p.args c.nvector.new.self c.loop-p.p-items c.nvector.result (omega (arith, c.loop-p.auto.p-items, c.loop-p-test.true)) inv.0 inv.1 c.nvector.ensures.value c.nvector.ensures.place
+    position-next c.loop-p.p-index c.args.args.now c.loop-p.args c.nvector.new.self c.loop-p.p-items c.nvector.result
+    (omega (arith, c.loop-p.auto.p-items, c.loop-p-test.true)) inv.0 inv.1 c.nvector.ensures.value c.nvector.ensures.place
 
 pub returns-clause-place : goal.returns-clause-place
 returns-clause-place c =
