@@ -3,6 +3,7 @@ ghost use Rattle.std.specs.Prelude.{◌≡◌, ◌+◌, ◌≤◌, length};
 ghost use Rattle.hex_digits.specs.Hex.{digits};
 ghost use Rattle.hex_digits.specs.Write.{Put, Wrote};
 ghost use Rattle.arcs.specs.Side.{side_number};
+ghost use Rattle.wire.specs.Kind.{number_of};
 ghost use Rattle.wire.specs.Reply as spec;
 
 use crate::kind::Kind;
@@ -55,20 +56,30 @@ pub enum Reply {
 
 // The page and a place stay two parameters: in a struct the page would be lent within a lent value, `self.old.bytes.now` where a contract says `out.old`.
 
-// The number in a reply: why it is refused, or 0.
-fn number_in(why: Option<Reason>) -> u8
-    ensures { result ≡ spec.number_in why }
+// The two digits of a kind.
+fn put_kind(out: &mut [u8], at: usize, kind: Kind) -> usize
+    requires { at + 2 ≤ length out.old }
+    ensures { Wrote out.old at 2 (digits 2 (number_of kind)) out.new result }
 {
-    why.map_or(0, Reason::number)
+    hex_digits::put_number(out, at, kind.number() as u64, 2)
 }
 
-// The kind of a reply, and the number of what it is refused for, 00 where it is not: four digits.
-fn put_head(out: &mut [u8], at: usize, kind: Kind, why: Option<Reason>) -> usize
+// A kind, and 00 for done: four digits.
+fn put_done(out: &mut [u8], at: usize, kind: Kind) -> usize
     requires { at + 4 ≤ length out.old }
-    ensures { Wrote out.old at 4 (spec.head_digits kind why) out.new result }
+    ensures { Wrote out.old at 4 (spec.two (number_of kind) 0) out.new result }
 {
-    let next = hex_digits::put_number(out, at, kind.number() as u64, 2);
-    hex_digits::put_number(out, next, number_in(why) as u64, 2)
+    let next = put_kind(out, at, kind);
+    hex_digits::put_number(out, next, 0, 2)
+}
+
+// A kind, and why it is refused: four digits.
+fn put_refused(out: &mut [u8], at: usize, kind: Kind, why: Reason) -> usize
+    requires { at + 4 ≤ length out.old }
+    ensures { Wrote out.old at 4 (spec.two (number_of kind) (spec.reason_number why)) out.new result }
+{
+    let next = put_kind(out, at, kind);
+    hex_digits::put_number(out, next, why.number() as u64, 2)
 }
 
 // The 16 digits of a float's bits.
@@ -140,22 +151,22 @@ fn write(out: &mut [u8], at: usize, reply: Reply) -> usize
     ensures { Wrote out.old at (length (spec.reply_digits reply)) (spec.reply_digits reply) out.new result }
 {
     match reply {
-        Reply::Done(kind) => put_head(out, at, kind, None),
-        Reply::Refused(kind, why) => put_head(out, at, kind, Some(why)),
+        Reply::Done(kind) => put_done(out, at, kind),
+        Reply::Refused(kind, why) => put_refused(out, at, kind, why),
         Reply::Solved(line) => {
-            let next = put_head(out, at, Kind::Solve, None);
+            let next = put_done(out, at, Kind::Solve);
             put_line(out, next, line)
         }
         Reply::Mean(p) => {
-            let next = put_head(out, at, Kind::Mean, None);
+            let next = put_done(out, at, Kind::Mean);
             put_position(out, next, p)
         }
         Reply::Pick(identity) => {
-            let next = put_head(out, at, Kind::Pick, None);
+            let next = put_done(out, at, Kind::Pick);
             hex_digits::put_number(out, next, identity as u64, 4)
         }
         Reply::Total(total) => {
-            let next = put_head(out, at, Kind::Total, None);
+            let next = put_done(out, at, Kind::Total);
             hex_digits::put_number(out, next, total as u64, 8)
         }
         Reply::NotAFrame => hex_digits::put_number(out, at, NOT_A_FRAME, 4),
