@@ -1,15 +1,14 @@
 -- What a rest of a line says is what the line says further on.
-use Prim.Native.Nat.{ℕ, zero, suc, ◌+◌, ◌-◌, ◌*◌, ◌≤◌}
-use mathlib.Core.Bool.{Bool, true, false, cond}
+use Prim.Native.Nat.{ℕ, zero, suc, ◌+◌, ◌-◌, ◌≤◌}
 use mathlib.Core.List.{List}
-use mathlib.Core.Path.{◌≡◌, refl, sym, ap, ◌∙◌}
+use mathlib.Core.Path.{◌≡◌, refl, ap, ◌∙◌}
 use native.Mathlib.Omega.{arith}
 use borrow.Author.Tests.{leb-true, leb-false, le-leb}
 use Rattle.std.proofs.lemmas.Bool.{lt-leb}
 use lib.Dec.{leb}
-use lib.ListN.{length, drop, take, get_or, length-drop}
+use lib.ListN.{length, drop, take, length-drop}
 use lib.Seq.{get_or-drop, take_all}
-use Rattle.unhex.specs.Digits.{low_of, lows_at, lows_in}
+use Rattle.unhex.specs.Digits.{lows_at, lows_in}
 use Rattle.unhex.proofs.Read.{by-test}
 use Rattle.std.specs.Float.{binary64}
 use Rattle.std.specs.Float.Ieee.{of_bits}
