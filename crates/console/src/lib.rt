@@ -61,6 +61,7 @@ fn say<W: Write>(
 const EPIPE: i32 = 32;
 
 // Is a failed write with this errno a fault? An output that nobody reads any more is none.
+// By the errno, not by std's `ErrorKind`: no contract of std says of an error at hand that its kind is that of its errno, and `is_told` speaks of the errno.
 pub fn is_fault(error: i32) -> bool
     ensures { result ≡ is_fault error }
 {

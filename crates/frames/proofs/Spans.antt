@@ -1,16 +1,21 @@
 -- The laws of lines in a piece: how far there is no newline, where a line ends, and what is kept of it.
 use Rattle.std.proofs.lemmas.List.{take_min}
-use Prim.Native.Nat.{ℕ, ◌+◌, ◌-◌, ◌≤◌, ◌<◌, min}
+use Prim.Native.Nat.{ℕ, ◌+◌, ◌-◌, ◌*◌, ◌≤◌, ◌<◌, min}
 use mathlib.Core.Bool.{Bool, true, false, true≢false, ◌||◌}
-use mathlib.Core.List.{List, ◌++◌}
+use mathlib.Core.List.{List, [], ◌∷◌, ◌++◌}
 use mathlib.Core.Logic.{◌≢◌}
-use mathlib.Core.Path.{◌≡◌, refl, sym, ap, ◌∙◌}
+use mathlib.Core.Path.{◌≡◌, refl, sym, ap, ◌∙◌, subst}
 use native.Mathlib.Omega.{arith}
 use borrow.Author.Tests.{eqb-false, eqb-true, ltb-false}
 use Rattle.std.specs.Prelude.{◌==◌, Some, None, nat_lt, not, cond}
 use Rattle.std.specs.List.{position, position_or_len}
 use Rattle.std.specs.Option.{unwrap_or}
 use Rattle.std.proofs.lemmas.List.Sums.{passes_at_first, fails_before_first, prefix_len-le-length}
+use denote.Ref.{Bor}
+use Rattle.std.specs.Iterator.{Yields}
+use Rattle.std.specs.List.{FoldsTo}
+use Rattle.std.specs.Slice.Iter.{chunks_exact_rest, chunks_exact_size, chunks_exact_steps}
+use Rattle.std.specs.declared.slice.ChunksExact.{ChunksExact}
 use lib.Dec.{eqb}
 use lib.ListN.{length, take, drop, get_or, get_or-append, length-append, length-drop}
 use lib.Seq.{drop-append_seam, drop-drop, get_or-take, get_or-drop, length-take-le, take_all, take-append-add}
@@ -105,6 +110,23 @@ block-passed s {i} {n} {rest} block {rest'} p e q l f =
       further s (i + n) (omega (arith, p.within)) none p,
       sym (sym (drop-drop n i s) ∙ ap (λ (z : List ℕ). drop n z) d ∙ rw (← l) (drop-append_seam block rest')),
     )
+
+-- blocks of 16 that hold no newline passed, one after another
+module _ {F : Type 0} (R : F → Bor (List ℕ) → F → Type 0) (told : (p : F) (x : Bor (List ℕ)) (q : F) → R p x q → NoNewline x.now (length x.now)) where
+  pub blocks-passed : (s : List ℕ) (xs : List (Bor (List ℕ))) (it it' : ChunksExact ℕ) (p q : F) (i : ℕ) → Yields chunks_exact_steps it xs it' → FoldsTo R p xs q
+      → chunks_exact_size it ≡ 16 → chunks_exact_rest it ≡ drop i s → Passes s i
+      → Passes s (i + length xs * 16) × (length (chunks_exact_rest it') ≡ length s - (i + length xs * 16)) × (chunks_exact_size it' ≡ 16)
+  blocks-passed s [] it it' p q i y f l e w =
+      let none : i ≡ i + 0 * 16 = omega arith in (
+        subst (λ (n : ℕ). Passes s n) none w,
+        ap (λ (t : ChunksExact ℕ). length (chunks_exact_rest t)) (sym y) ∙ ap (λ (z : List ℕ). length z) e ∙ length-drop i s ∙ ap (λ (n : ℕ). length s - n) none,
+        ap (λ (t : ChunksExact ℕ). chunks_exact_size t) (sym y) ∙ l,
+      )
+  blocks-passed s (x ∷ xs) it it' p q i (j, t, ys) (m, c, f) l e w =
+      let b = block-passed s x.now w e t.1.0 (t.1.1 ∙ l) (told p x m c) in
+      let r = blocks-passed s xs j it' m q (i + 16) ys f (t.0 ∙ l) b.1 b.0 in
+      let n : i + 16 + length xs * 16 ≡ i + length (x ∷ xs) * 16 = omega arith in
+      (subst (λ (n : ℕ). Passes s n) n r.0, r.1 ∙ ap (λ (n : ℕ). length s - n) n, r.2)
 
 -- ---- what is kept
 

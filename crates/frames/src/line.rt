@@ -39,14 +39,8 @@ fn holds(block: &[u8]) -> bool
 fn skip(s: &[u8]) -> usize
     ensures { spec.Passes s.now result }
 {
-    let mut i = 0;
-    for block in s.chunks_exact(BLOCK) {
-        if holds(block) {
-            break;
-        }
-        i += BLOCK;
-    }
-    i
+    let blocks = s.chunks_exact(BLOCK).position(holds);
+    blocks.unwrap_or(s.len() / BLOCK) * BLOCK
 }
 
 // The place of the first newline.

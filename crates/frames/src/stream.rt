@@ -16,7 +16,7 @@ use wire::reply::{Reply, put};
 // The room that any reply fits, its newline with it.
 const ROOM: usize = wire::reply::MOST_REPLY_DIGITS + 1;
 
-// The session, and the first n bytes of a line that has begun. No memory but fixed: an array by value, with how much of it counts.
+// The session, and the first n bytes of a line that has begun. Who holds a stream may copy it, and an `ArrayVec` is not `Copy`: so an array, with how much of it counts.
 #[derive(Clone, Copy)]
 pub struct Stream {
     pub session: Session,
@@ -25,6 +25,7 @@ pub struct Stream {
 }
 
 // A session in its parts: all of its board but the entries, where it has one, the entries of its targets, and their identities.
+// The identities stand in the entries too: `look` takes a list of identities, so that no entry need be handed over.
 #[derive(Clone, Copy)]
 struct InParts {
     setting: Option<Setting>,
@@ -108,6 +109,8 @@ fn waits(end: usize, length: usize, left: usize) -> bool
     end >= length || left < ROOM
 }
 
+// Stream, piece and page stay three parameters, as `feed` is handed them: in a struct the page would be lent within a lent value, in each contract.
+
 // Goes on with a line that has begun: answers it where it ends in the piece and any reply fits the page.
 fn go_on(s: Stream, xs: &[u8], page: &mut [u8]) -> Fed
     ensures { turn.GoingOn s xs.now page.old page.new result }
@@ -154,6 +157,7 @@ fn lines(s: Stream, xs: &[u8], page: &mut [u8]) -> Fed
     let mut ids = start.ids;
     let mut at = 0;
     let mut rest = xs;
+    // No `split_inclusive`: it searches each line for its newline, and `line_at` need not where a line is digits alone.
     while !rest.is_empty() {
         let span = line_at(rest);
         let end = span.end;

@@ -1,5 +1,5 @@
 -- The digits of a reply: "kind, number (2 hexadecimal digits, 00 done), then the answer". Definitions only.
-use Rattle.std.specs.Prelude.{ℕ, List, ◌++◌, Float, Err, Option, None, Some}
+use Rattle.std.specs.Prelude.{ℕ, List, ◌++◌, Float, Err}
 use Rattle.std.specs.Float.{binary64}
 use Rattle.std.specs.Float.Ieee.{to_bits}
 use Rattle.means.specs.Mean as means
@@ -12,7 +12,6 @@ use Rattle.arcs.specs.Side.{side_number}
 use Rattle.walks.specs.declared.Outcome.{Outcome}
 use Rattle.wire.specs.declared.kind.Kind.{Kind}
 use Rattle.wire.specs.Kind.{number_of}
-use Rattle.wire.specs.declared.kind.Kind.{Kind}
 use Rattle.wire.specs.declared.reply.Reason.{Reason}
 use Rattle.wire.specs.declared.reply.Reason.TheVariants as reason
 use Rattle.wire.specs.declared.reply.Reply.{Reply}
@@ -26,15 +25,6 @@ two kind number = digits 2 kind ++ digits 2 number
 abbrev pub reason_number : Reason → ℕ
 reason_number (reason.Refusal q) = call.number_of q
 reason_number (reason.NoMean e) = means.number_of (Err e)
-
--- the number in a reply, "00 done" or why it is refused
-abbrev pub number_in : {R : Type 0} → (R → ℕ) → Option R → ℕ
-number_in r None = 0
-number_in r (Some why) = r why
-
--- the digits that a reply begins with
-abbrev pub head_digits : {K R : Type 0} → (K → ℕ) → (R → ℕ) → K → Option R → List ℕ
-head_digits k r kind why = two (k kind) (number_in r why)
 
 -- "Floats are 16 digits of their bits, high digit first"; "NaN is 7ff8000000000000"
 abbrev pub float_digits : Float → List ℕ

@@ -35,45 +35,43 @@ pub enum Frame {
     Total,
 }
 
-// A line and a place stay two parameters below: document 01 counts the digits of a frame from its start, and a rest of the line would count anew.
-
-// The float of the 16 digits of s from at on, 0 where s ends before; every NaN pattern is a NaN.
-fn float_at(s: &[u8], at: usize) -> f64
-    ensures { result ≡ spec.float_at lows_in s.now at }
+// The float of the first 16 digits of s, 0 where s ends before; every NaN pattern is a NaN.
+fn float(s: &[u8]) -> f64
+    ensures { result ≡ spec.float_at lows_in s.now 0 }
 {
-    patterns::from_bits(hex_digits::sixteen_at(s, at))
+    patterns::from_bits(hex_digits::sixteen_at(s, 0))
 }
 
-// The identity in the 4 digits of s past the kind.
+// The identity in the first 4 digits of s.
 fn identity(s: &[u8]) -> u16
-    requires { 6 ≤ length s.now }
-    ensures { result ≡ spec.identity_in lows_in s.now }
+    requires { 4 ≤ length s.now }
+    ensures { result ≡ lows_in s.now 0 4 }
 {
-    (hex_digits::two_at(s, 2) * 256 + hex_digits::two_at(s, 4)) as u16
+    (hex_digits::two_at(s, 0) * 256 + hex_digits::two_at(s, 2)) as u16
 }
 
-// The position in the 48 digits of s from at on.
-fn coordinates_at(s: &[u8], at: usize) -> Coordinates
-    requires { at + 48 ≤ length s.now }
-    ensures { result ≡ spec.coordinates_at lows_in s.now at }
+// The position in the first 48 digits of s.
+fn coordinates(s: &[u8]) -> Coordinates
+    requires { 48 ≤ length s.now }
+    ensures { result ≡ spec.coordinates_at lows_in s.now 0 }
 {
     Coordinates {
-        x: float_at(s, at),
-        y: float_at(s, at + 16),
-        z: float_at(s, at + 32),
+        x: float(s),
+        y: float(&s[16..]),
+        z: float(&s[32..]),
     }
 }
 
-// The position, bearing and speed in the 80 digits of s from at on.
-fn fix_at(s: &[u8], at: usize) -> Fix
-    requires { at + 80 ≤ length s.now }
-    ensures { result ≡ spec.fix_at lows_in s.now at }
+// The position, bearing and speed in the first 80 digits of s.
+fn fix(s: &[u8]) -> Fix
+    requires { 80 ≤ length s.now }
+    ensures { result ≡ spec.fix_at lows_in s.now 0 }
 {
-    let position = coordinates_at(s, at);
+    let position = coordinates(s);
     Fix {
         position,
-        bearing: float_at(s, at + 48),
-        speed: float_at(s, at + 64),
+        bearing: float(&s[48..]),
+        speed: float(&s[64..]),
     }
 }
 
@@ -85,12 +83,12 @@ fn of_kind(kind: Kind, s: &[u8]) -> Option<Frame>
         return None;
     }
     Some(match kind {
-        Kind::Fresh => Frame::Fresh(float_at(s, 2)),
-        Kind::Report => Frame::Told(Call::Report(identity(s), fix_at(s, 6))),
-        Kind::Withdraw => Frame::Told(Call::Withdraw(identity(s))),
-        Kind::OwnShip => Frame::Told(Call::OwnShip(fix_at(s, 2))),
-        Kind::Track => Frame::Told(Call::Track(coordinates_at(s, 2), coordinates_at(s, 50))),
-        Kind::Solve => Frame::Told(Call::Solve(identity(s))),
+        Kind::Fresh => Frame::Fresh(float(&s[2..])),
+        Kind::Report => Frame::Told(Call::Report(identity(&s[2..]), fix(&s[6..]))),
+        Kind::Withdraw => Frame::Told(Call::Withdraw(identity(&s[2..]))),
+        Kind::OwnShip => Frame::Told(Call::OwnShip(fix(&s[2..]))),
+        Kind::Track => Frame::Told(Call::Track(coordinates(&s[2..]), coordinates(&s[50..]))),
+        Kind::Solve => Frame::Told(Call::Solve(identity(&s[2..]))),
         Kind::Mean => Frame::Mean,
         Kind::Pick => Frame::Pick,
         Kind::Total => Frame::Total,

@@ -43,7 +43,7 @@ impl Byte for Kind {
 }
 
 impl Kind {
-    // The kind of this number, where there is one.
+    // The kind of this number, where there is one. No `TryFrom`: its error would say nothing, and both callers would drop it by `ok`.
     pub fn of_number(number: u64) -> Option<Kind>
         ensures { result ≡ spec.kind_at number }
     {

@@ -63,20 +63,30 @@ pub enum Reply<K = Kind, R = Reason> {
 
 // The page and a place stay two parameters: in a struct the page would be lent within a lent value, `self.old.bytes.now` where a contract says `out.old`.
 
-// The number in a reply: why it is refused, or 0.
-fn number_in<R: Byte>(why: Option<R>) -> u8
-    ensures { result ≡ spec.number_in R.byte why }
+// The two digits of a byte.
+fn put_byte<B: Byte>(out: &mut [u8], at: usize, b: B) -> usize
+    requires { at + 2 ≤ length out.old }
+    ensures { Wrote out.old at 2 (digits 2 (B.byte b)) out.new result }
 {
-    why.map_or(0, R::byte)
+    hex_digits::put_number(out, at, b.byte() as u64, 2)
 }
 
-// The kind of a reply, and the number of what it is refused for, 00 where it is not: four digits.
-fn put_head<K: Byte, R: Byte>(out: &mut [u8], at: usize, kind: K, why: Option<R>) -> usize
+// A kind, and 00 for done: four digits.
+fn put_done<K: Byte>(out: &mut [u8], at: usize, kind: K) -> usize
     requires { at + 4 ≤ length out.old }
-    ensures { Wrote out.old at 4 (spec.head_digits K.byte R.byte kind why) out.new result }
+    ensures { Wrote out.old at 4 (spec.two (K.byte kind) 0) out.new result }
 {
-    let next = hex_digits::put_number(out, at, kind.byte() as u64, 2);
-    hex_digits::put_number(out, next, number_in(why) as u64, 2)
+    let next = put_byte(out, at, kind);
+    hex_digits::put_number(out, next, 0, 2)
+}
+
+// A kind, and why it is refused: four digits.
+fn put_refused<K: Byte, R: Byte>(out: &mut [u8], at: usize, kind: K, why: R) -> usize
+    requires { at + 4 ≤ length out.old }
+    ensures { Wrote out.old at 4 (spec.two (K.byte kind) (R.byte why)) out.new result }
+{
+    let next = put_byte(out, at, kind);
+    put_byte(out, next, why)
 }
 
 // The 16 digits of a float's bits.
@@ -148,22 +158,22 @@ fn write<K: Byte, R: Byte>(out: &mut [u8], at: usize, reply: Reply<K, R>) -> usi
     ensures { Wrote out.old at (length (spec.digits_by K.byte R.byte reply)) (spec.digits_by K.byte R.byte reply) out.new result }
 {
     match reply {
-        Reply::Done(kind) => put_head(out, at, kind, None::<R>),
-        Reply::Refused(kind, why) => put_head(out, at, kind, Some(why)),
+        Reply::Done(kind) => put_done(out, at, kind),
+        Reply::Refused(kind, why) => put_refused(out, at, kind, why),
         Reply::Solved(line) => {
-            let next = put_head(out, at, Kind::Solve, None::<R>);
+            let next = put_done(out, at, Kind::Solve);
             put_line(out, next, line)
         }
         Reply::Mean(p) => {
-            let next = put_head(out, at, Kind::Mean, None::<R>);
+            let next = put_done(out, at, Kind::Mean);
             put_position(out, next, p)
         }
         Reply::Pick(identity) => {
-            let next = put_head(out, at, Kind::Pick, None::<R>);
+            let next = put_done(out, at, Kind::Pick);
             hex_digits::put_number(out, next, identity as u64, 4)
         }
         Reply::Total(total) => {
-            let next = put_head(out, at, Kind::Total, None::<R>);
+            let next = put_done(out, at, Kind::Total);
             hex_digits::put_number(out, next, total as u64, 8)
         }
         Reply::NotAFrame => hex_digits::put_number(out, at, NOT_A_FRAME, 4),

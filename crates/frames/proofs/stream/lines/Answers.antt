@@ -174,7 +174,9 @@ returns c =
     let w = l.invariant.passed.wrote in
     let stops : i + e.result < length xs → (get_or xs (i + e.result) 0 ≡ newline) × (length a.page.now < l.at + room) =
     λ h. elim c.loop-ids-test.branch [
-      | else-loop-ids-test z ↦ absurd (omega (arith, h, n.passes.within, length-drop i xs, eqb-true (length l.rest.now) 0 (sym c.is_empty.ensures ∙ z.loop-ids-test.false), left-long xs l.rest.now r, ap (λ (y : List ℕ). length y) r))
+      | else-loop-ids-test z ↦
+          let none = eqb-true (length l.rest.now) 0 (sym c.is_empty.ensures ∙ z.loop-ids-test.false) in
+          absurd (omega (arith, h, n.passes.within, length-drop i xs, none, left-long xs l.rest.now r))
       | then-loop-ids-test+then-waits z ↦
           let d = ends_same _ e.ensures z.line_at-span.ensures.ends_at in
           let b = sym (get_or-drop i xs e.result 0) ∙ n.ends (omega (arith, length-drop i xs)) in
