@@ -98,7 +98,8 @@ swept-changes c a s x (inl (f, e)) = rw e (own-sweeps f a s x)
 swept-changes c a s x (inr (b, d, e)) = rw e (track-sweeps b d a s x)
 
 -- a withdrawal takes out what stands at its spot
-pub removed : (i : ℕ) (a : Answer) (s : Result ℕ ℕ) (x : Option Held) (r : Change) → MatchResult s (λ p. r ≡ Removes p) (λ e. r ≡ Stays) → RightChange (Withdraw i) a s x r
+pub removed : (i : ℕ) (a : Answer) (s : Result ℕ ℕ) (x : Option Held) (r : Change) → MatchResult s (λ p. r ≡ Removes p) (λ e. r ≡ Stays)
+    → RightChange (Withdraw i) a s x r
 removed i a (Ok p) x r e = rw e (withdraw-removes i a p x)
 removed i a (Err p) x r e = rw e (withdraw-stays i a p x)
 

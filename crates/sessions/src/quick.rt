@@ -11,6 +11,8 @@ use wire::kind::Kind;
 use wire::reply::Reply;
 
 // What a quick look tells of a frame.
+// An enum of its own beside `Hint`: what is done carries the kind of its call, which a glance has not. Of one enum generic in both the two would be mapped arm by arm too,
+// and one generic in the reply alone would hold a whole reply, with room for a line, beside each target and setting.
 #[derive(Clone, Copy)]
 pub enum Quick {
     // The reply, and the session stays as it was.

@@ -119,15 +119,21 @@ pub fn step(s: Session, frame: Option<Frame>) -> Stepped
         Some(Frame::Told(call)) => tell(s, call),
         Some(Frame::Mean) => Stepped {
             session: s,
-            reply: s.board.map_or(Reply::NotAFrame, |board| mean_told(mean(board))),
+            reply: s
+                .board
+                .map_or(Reply::NotAFrame, |board| mean_told(mean(board))),
         },
         Some(Frame::Pick) => Stepped {
             session: s,
-            reply: s.board.map_or(Reply::NotAFrame, |board| pick_told(pick(board))),
+            reply: s
+                .board
+                .map_or(Reply::NotAFrame, |board| pick_told(pick(board))),
         },
         Some(Frame::Total) => Stepped {
             session: s,
-            reply: s.board.map_or(Reply::NotAFrame, |board| Reply::Total(total(board))),
+            reply: s
+                .board
+                .map_or(Reply::NotAFrame, |board| Reply::Total(total(board))),
         },
         None => Stepped {
             session: s,

@@ -74,7 +74,7 @@ pub fn pick(board: Board) -> Result<u16, Refusal>
 }
 
 // The least meeting time of these targets, and the first of them that has it.
-// A fold of `better` and `sooner`, no `min_by_key` over `filter_map`: of those the goal `returns` stayed open, for antt found no closure in what `min_by_key` ensures.
+// A fold of `better` and `sooner`, no `min_by_key`: which of two equal times stays is a line of this file, which the must-fail edits of a pick change.
 fn soonest(targets: &[Target]) -> Option<Best>
     ensures { result ≡ fold spec.better None targets.now }
 {

@@ -9,7 +9,9 @@ use Rattle.board.proofs.board.seek_in.Goals as goal
 
 pub returns : goal.returns
 unfolding spot_from
-returns c = record { spot_is = c.seek-spot.ensures.value; found_is = held-found c.args.among.now c.args.identity c.seek-spot.result c.map-found.result c.seek-spot.ensures.value (search rules) }
+returns c =
+    let at = c.seek-spot.ensures.value in
+    record { spot_is = at; found_is = held-found c.args.among.now c.args.identity c.seek-spot.result c.map-found.result at (search rules) }
 
 pub map-found-requires : goal.map-found-requires
 unfolding spot_from
