@@ -1,16 +1,10 @@
 -- The least of the meeting times, one target after the other, the earlier kept among equals, is the pick.
 use Rattle.std.specs.Prelude.{fold, Option, Some, None, Ok, Err, MatchOption, IsSomeAnd}
 use Rattle.std.specs.Option.{ok_or}
-use denote.Ref.{Bor}
-use denote.Param.Members.{Mut}
-use Rattle.std.specs.Fn.{CalledAt}
-use Rattle.std.specs.Iterator.{Drains, KeyTurn, PicksMinByKey}
+use denote.Param.Members.{Mut, Called}
+use Rattle.std.specs.Iterator.{Drains, FoldTurn, ReducesItems}
 use Rattle.std.specs.Iterator.Runs.{Run, EachRunFrom}
 use Rattle.std.specs.List.{FoldsTo, reduce, filter_map}
-use Rattle.std.specs.declared.cmp.Ordering.{Ordering}
-use Rattle.std.specs.declared.cmp.Ordering.TheVariants.{Less, Equal, Greater}
-use Rattle.std.specs.Ordering.{nat_cmp, min_by_ordering}
-use Rattle.std.proofs.lemmas.Cmp.{ranked}
 use Prim.Native.Nat.{ℕ, ◌<◌, min}
 use native.Mathlib.Omega.{arith}
 use native.Mathlib.Nat.{min-eq_left, min-eq_right}
@@ -23,7 +17,7 @@ use Rattle.plain.specs.declared.targets.Target.{Target}
 use Rattle.plain.specs.declared.call.Refusal.TheVariants.{NoMeeting}
 use Rattle.targets.specs.declared.asking.Best.{Best}
 use Rattle.plain.specs.Asking.{meeting_time, least_time, first_at, pick_at, pick_of}
-use Rattle.targets.specs.Asking.{sooner, better_by, better, met_at, met}
+use Rattle.targets.specs.Asking.{sooner, better_by, better, met_at, met, sooner_of}
 
 -- the better of two, the first where their times are equal
 join : Option Best → Option Best → Option Best
@@ -132,14 +126,9 @@ picked l None o e m = rw m (picked_none l (sym e))
 picked l (Some b) None e m = elim m [ ]
 picked l (Some b) (Some i) e m = rw m (picked-one l b (sym e))
 
--- ---- the least by its key is the least of the meeting times
-
--- the one that meets first, the earlier where both meet at once
-pub sooner_of : Best → Best → Best
-sooner_of a b = cond (ltb b.time a.time) b a
+-- ---- the one of those with a time that meets first
 
 held-best : (b : Best) (l : List Target) → Some (fold sooner_of b (filter_map met l)) ≡ fold better (Some b) l
-unfolding sooner_of
 held-best b [] = refl
 held-best b (t ∷ l) = go (meeting_time t) refl (λ a. held-best a l)
   where
@@ -163,40 +152,19 @@ first-best (t ∷ l) = go (meeting_time t) refl (first-best l)
     go None e h = rw e h
     go (Some s) e h = rw e (held-best (record { identity = t.identity; time = s }) l)
 
-module _ (x z : Best) where
-  ordered : (o : Ordering) → nat_cmp x.time z.time ≡ o → min_by_ordering o x z ≡ sooner_of x z
-  unfolding sooner_of
-  ordered Less e = simp (le-ltb z.time x.time (omega (arith, ranked x.time z.time Less (sym e))))
-  ordered Equal e = simp (le-ltb z.time x.time (omega (arith, ranked x.time z.time Equal (sym e))))
-  ordered Greater e = simp (lt-ltb z.time x.time (omega (arith, ranked x.time z.time Greater (sym e))))
-
-  timed : (o : Ordering) → min_by_ordering o x.time z.time ≡ (min_by_ordering o x z).time
-  timed Less = refl
-  timed Equal = refl
-  timed Greater = refl
+-- ---- what a call at each turn makes of the items that an iterator gives, by what the call does
 
 -- the steps of an iterator, by what is said of its runs
 abbrev pub steps-of : {S A : Type 0} {steps : S → Option A → S → Type 0} {s : S} {P : Run steps → Type 0} → EachRunFrom steps s P → S → Option A → S → Type 0
 steps-of {steps = steps} e = steps
 
-module _ {F : Type 0} (g : Mut F (Bor Best × Unit {0}) ℕ) (f : F) (keys : (x : Best) (k : ℕ) (q : F) → CalledAt g f x k q → (q ≡ f) × (k ≡ x.time)) where
-  turns : (x : Best) (xs : List Best) (p q : F × ℕ) (y : Best) → p.0 ≡ f → p.1 ≡ x.time
-      → FoldsTo {P = (F × ℕ) × Best} (KeyTurn min_by_ordering min_by_ordering g nat_cmp) (p, x) xs (q, y) → FoldsTo (λ a b c. c ≡ sooner_of a b) x xs y
-  turns x [] p q y a k c = ap (λ w. w.1) c
-  turns x (z ∷ xs) p q y a k c =
-      let t = c.1 in
-      let m = keys z t.0 c.0.0.0 (subst (λ w. CalledAt g w z t.0 c.0.0.0) a t.2) in
-      let o : nat_cmp x.time z.time ≡ t.1 = sym (ap (λ (i : ℕ). nat_cmp i z.time) k) ∙ sym (ap (nat_cmp p.1) m.1) ∙ t.3 in
-      let one : c.0.1 ≡ min_by_ordering t.1 x z = t.5 in
-      (c.0.1, one ∙ ordered x z t.1 o, turns c.0.1 xs c.0.0 q y m.0 (t.4 ∙ rw (k, m.1, one) (timed x z t.1)) c.2)
+module _ {A F : Type 0} (g : Mut F (A × (A × Unit {0})) A) (h : A → A → A) (f : F) (k : (a x r : A) (q : F) → Called g f (a, (x, tt)) r q → (q ≡ f) × (r ≡ h a x)) where
+  turns : (xs : List A) (p q : F × A) → p.0 ≡ f → FoldsTo {P = F × A} (FoldTurn g) p xs q → FoldsTo (λ a x c. c ≡ h a x) p.1 xs q.1
+  turns [] p q e c = ap (λ w. w.1) c
+  turns (x ∷ xs) p q e c = let m = k p.1 x c.0.1 c.0.0 (subst (λ w. Called g w (p.1, (x, tt)) c.0.1 c.0.0) e c.1) in (c.0.1, m.1, turns xs c.0 q m.0 c.2)
 
-  by-keys : {S : Type 0} (steps : S → Option Best → S → Type 0) (s : S) (r : Option Best) → PicksMinByKey steps g nat_cmp s f r
-      → MatchOption r (Drains steps s []) (λ y. (x : Best) × (xs : List Best) × Drains steps s (x ∷ xs) × FoldsTo (λ a b c. c ≡ sooner_of a b) x xs y)
-  by-keys steps s None h = h
-  by-keys steps s (Some y) (x, xs, k, f', q, d, called, t) = let m = keys x k f' called in (x, xs, d, turns x xs (f', k) q y m.0 m.1 t)
-
--- the least by its time, from the clause `ran` of `min_by_key`
-pub by-key : {S F : Type 0} (steps : S → Option Best → S → Type 0) (s : S) (r : Option Best) {g : Mut F (Bor Best × Unit {0}) ℕ} {f : F}
-    → PicksMinByKey steps g nat_cmp s f r → ((x : Best) (k : ℕ) (q : F) → CalledAt g f x k q → (q ≡ f) × (k ≡ x.time))
-    → MatchOption r (Drains steps s []) (λ y. (x : Best) × (xs : List Best) × Drains steps s (x ∷ xs) × FoldsTo (λ a b c. c ≡ sooner_of a b) x xs y)
-by-key steps s r {g} {f} h keys = by-keys g f keys steps s r h
+  -- from the clause `ran` of `reduce`
+  pub by-turns : {S : Type 0} (steps : S → Option A → S → Type 0) (s : S) (r : Option A) → ReducesItems steps g s f r
+      → MatchOption r (Drains steps s []) (λ y. (x : A) × (xs : List A) × Drains steps s (x ∷ xs) × FoldsTo (λ a x c. c ≡ h a x) x xs y)
+  by-turns steps s None d = d
+  by-turns steps s (Some y) (x, xs, q, d, t) = (x, xs, d, turns xs (f, x) (q, y) refl t)

@@ -41,3 +41,7 @@ met_at i (Some s) = Some (record { identity = i; time = s })
 
 abbrev pub met : Target → Option Best
 met t = met_at t.identity (meeting_time t)
+
+-- the one that meets first, the earlier where both meet at once
+abbrev pub sooner_of : Best → Best → Best
+sooner_of a b = cond (ltb b.time a.time) b a

@@ -77,7 +77,17 @@ pub fn pick(board: Board) -> Result<u16, Refusal>
 fn soonest(targets: &[Target]) -> Option<Best>
     ensures { result ≡ fold spec.better None targets.now }
 {
-    targets.iter().filter_map(|t| met(*t)).min_by_key(|b| b.time)
+    targets
+        .iter()
+        .filter_map(|t| met(*t))
+        .reduce(|a, b| sooner(a, b))
+}
+
+// The one of two that meets first, the earlier where both meet at once.
+fn sooner(a: Best, b: Best) -> Best
+    ensures { result ≡ spec.sooner_of a b }
+{
+    if b.time < a.time { b } else { a }
 }
 
 // A target's identity and meeting time, where its line has one that was found.
