@@ -74,16 +74,25 @@ pub fn pick(board: Board) -> Result<u16, Refusal>
 }
 
 // The least meeting time of these targets, and the first of them that has it.
-// A fold of `better` and `sooner`, no `min_by_key`: which of two equal times stays is a line of this file, which the must-fail edits of a pick change.
 fn soonest(targets: &[Target]) -> Option<Best>
     ensures { result ≡ fold spec.better None targets.now }
 {
-    targets.iter().fold(None, |b, t| better(b, *t))
+    targets
+        .iter()
+        .filter_map(|t| met(*t))
+        .reduce(|a, b| sooner(a, b))
 }
 
-// The best so far, or target t where its line has a found meeting time that is less.
-fn better(b: Option<Best>, t: Target) -> Option<Best>
-    ensures { result ≡ spec.better b t }
+// The one of two that meets first, the earlier where both meet at once.
+fn sooner(a: Best, b: Best) -> Best
+    ensures { result ≡ spec.sooner_of a b }
+{
+    if b.time < a.time { b } else { a }
+}
+
+// A target's identity and meeting time, where its line has one that was found.
+fn met(t: Target) -> Option<Best>
+    ensures { result ≡ spec.met t }
 {
     match t.held.line {
         Some(
@@ -91,23 +100,10 @@ fn better(b: Option<Best>, t: Target) -> Option<Best>
                 meeting: Outcome::Found { nanoseconds, .. },
                 ..
             },
-        ) => sooner(b, t.identity, nanoseconds),
-        _ => b,
-    }
-}
-
-// The best so far, or this identity where its meeting time in nanoseconds is less: among equals the earlier stays.
-fn sooner(b: Option<Best>, identity: u16, time: u64) -> Option<Best>
-    ensures { result ≡ spec.sooner b identity time }
-{
-    match b {
-        None => Some(Best { identity, time }),
-        Some(best) => {
-            if time < best.time {
-                Some(Best { identity, time })
-            } else {
-                b
-            }
-        }
+        ) => Some(Best {
+            identity: t.identity,
+            time: nanoseconds,
+        }),
+        _ => None,
     }
 }
