@@ -1,6 +1,6 @@
 // What a call makes of a board, told from all but the entries of its targets where that is enough. The entries are long: who holds them
 // in place need not hand them over for a report.
-ghost use Rattle.std.specs.Prelude.{◌≡◌, Some};
+ghost use Rattle.std.specs.Prelude.{◌≡◌, map, Some};
 ghost use Rattle.board.specs.Glance as spec;
 
 use crate::board::{own_after, track_after};
@@ -11,7 +11,7 @@ use plain::state::Board;
 use plain::targets::{Held, MOST_TARGETS, Target, Targets};
 use questions::call::vehicle;
 use questions::{ends_asked, fix_asked, identity_asked};
-use targets::{least, seek};
+use targets::{Named, least, seek};
 
 // All of a board but the entries of its targets.
 // A board has these parts itself, for they are the plain board's: within a setting each would be named one step deeper, in every definition.
@@ -20,7 +20,7 @@ pub struct Setting {
     pub radius: f64,
     pub own: Option<Vehicle>,
     pub track: Option<Ends>,
-    // Beside the identities that are lent with a setting, no slice of them in it: who holds both keeps a setting next to what the slice would lend.
+    // Beside the targets or identities that are lent with a setting, no slice in it: who holds both keeps a setting next to what the slice would lend.
     pub count: usize,
     pub total: u32,
 }
@@ -71,14 +71,14 @@ pub fn board_of(setting: Setting, entries: [Target; MOST_TARGETS]) -> Board
     }
 }
 
-// What a call makes of every board of this setting whose targets have these identities; none where the entries have to be looked at.
+// What a call makes of every board of this setting whose targets have the identities of these; none where the entries have to be looked at.
 // Setting and identities stay two parameters: no other function takes this pair, for a report needs the count alone, and a look has a setting or none.
-pub fn glance(setting: Setting, ids: &[u16], call: Call) -> Option<Hint>
-    ensures value { result ≡ spec.glance setting ids.now call }
-    ensures unchanged { ids.exit.now ≡ ids.entry.now }
+pub fn glance<T: Named>(setting: Setting, among: &[T], call: Call) -> Option<Hint>
+    ensures value { result ≡ spec.glance setting (map T.name among.now) call }
+    ensures unchanged { among.exit.now ≡ among.entry.now }
 {
     match call {
-        Call::Report(identity, fix) => at_report(setting.count, ids, identity, fix),
+        Call::Report(identity, fix) => at_report(setting.count, among, identity, fix),
         Call::OwnShip(fix) => Some(at_setting(setting, call, fix_asked(fix))),
         Call::Track(start, end) => Some(at_setting(setting, call, ends_asked(start, end))),
         Call::Withdraw(_) | Call::Solve(_) => None,
@@ -86,14 +86,14 @@ pub fn glance(setting: Setting, ids: &[u16], call: Call) -> Option<Hint>
 }
 
 // A report of an identity that is held takes its place.
-fn at_report(count: usize, ids: &[u16], identity: u16, fix: Fix) -> Option<Hint>
-    ensures { result ≡ spec.at_report count ids.now identity fix }
+fn at_report<T: Named>(count: usize, among: &[T], identity: u16, fix: Fix) -> Option<Hint>
+    ensures { result ≡ spec.at_report count (map T.name among.now) identity fix }
 {
     if let Err(refusal) = report_asked(identity, fix) {
         return Some(Hint::Stays(Err(refusal)));
     }
-    let n = least(count).min(ids.len());
-    let p = seek(&ids[..n], identity).ok()?;
+    let n = least(count).min(among.len());
+    let p = seek(&among[..n], identity).ok()?;
     let held = Held {
         report: vehicle(fix),
         line: None,

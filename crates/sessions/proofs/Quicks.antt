@@ -1,14 +1,15 @@
 -- What a quick look tells holds of every session of the setting (`quickly`), and the parts of a session.
 use Rattle.std.specs.Prelude.{Option, Some, None, Ok}
 use Prim.Native.Nat.{ℕ}
-use mathlib.Core.List.{List}
-use mathlib.Core.Path.{◌≡◌, refl, sym, ap, ◌∙◌}
+use mathlib.Core.List.{List, map}
+use mathlib.Core.Path.{◌≡◌, refl, sym}
 use lib.ListN.{length}
 use Rattle.plain.specs.Targets.{most_targets, at_most}
-use Rattle.targets.specs.Slots.{identities}
+use Rattle.targets.specs.Slots.{identity_of, identities}
 use Rattle.plain.specs.Code.{plain}
 use Rattle.board.specs.Glance.{setting_of, board_of, Under, Turns, Glanced, glance}
-use Rattle.board.proofs.Glances.{identities-first, length-identities, glanced}
+use Rattle.std.proofs.lemmas.List.{take-map}
+use Rattle.board.proofs.Glances.{identities-first, glanced}
 use Rattle.plain.proofs.Listed.{at-most-le}
 use Rattle.plain.specs.declared.targets.Targets.{Targets}
 use Rattle.sessions.specs.declared.session.Session.{Session}
@@ -44,8 +45,11 @@ pub under-own : (q : Setting) (ts : Targets) (ids : List ℕ) → length ts.entr
 under-own q ts ids l k e =
     record { length_is = l; same = rw (e, ← k) (identities-first ts.entries (at_most ts.count) l (at-most-le ts.count)) }
 
-pub ids-long : (ts : Targets) (ids : List ℕ) → length ts.entries ≡ most_targets → ids ≡ identities ts.entries (at_most ts.count) → length ids ≡ most_targets
-ids-long ts ids l e = ap length e ∙ length-identities ts.entries (at_most ts.count) l (at-most-le ts.count)
+-- and entries have their own
+pub standing-own : (o : Option Setting) (es : List Target) → length es ≡ most_targets → Standing o (map identity_of es) es
+unfolding Standing
+standing-own None es l = tt
+standing-own (Some q) es l = record { length_is = l; same = take-map identity_of (at_most q.count) es }
 
 -- ---- what is told of a frame
 

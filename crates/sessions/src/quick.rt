@@ -1,11 +1,12 @@
 // What a frame makes of a session, told from all but the entries of its targets where that is enough.
-ghost use Rattle.std.specs.Prelude.{◌≡◌};
+ghost use Rattle.std.specs.Prelude.{◌≡◌, map};
 ghost use Rattle.sessions.specs.Quick as spec;
 
 use crate::session::{kind_of, told};
 use board::glance::{Hint, Setting, glance};
 use plain::call::Call;
 use plain::targets::Target;
+use targets::Named;
 use wire::frame::Frame;
 use wire::kind::Kind;
 use wire::reply::Reply;
@@ -23,17 +24,17 @@ pub enum Quick {
     Sweeps(Kind, Setting),
 }
 
-// What a line makes of every session of this setting whose targets have these identities, where the entries need not be looked at.
-pub fn look(setting: Option<Setting>, ids: &[u16], frame: Option<Frame>) -> Option<Quick>
-    ensures value { result ≡ spec.look setting ids.now frame }
-    ensures unchanged { ids.exit.now ≡ ids.entry.now }
+// What a line makes of every session of this setting whose targets have the identities of these, where the entries need not be looked at.
+pub fn look<T: Named>(setting: Option<Setting>, among: &[T], frame: Option<Frame>) -> Option<Quick>
+    ensures value { result ≡ spec.look setting (map T.name among.now) frame }
+    ensures unchanged { among.exit.now ≡ among.entry.now }
 {
     let Some(asked) = frame else {
         return Some(Quick::Stays(Reply::NotAFrame));
     };
     match asked {
         Frame::Fresh(_) | Frame::Mean | Frame::Pick => None,
-        Frame::Told(call) => at_call(setting, ids, call),
+        Frame::Told(call) => at_call(setting, among, call),
         Frame::Total => Some(Quick::Stays(total_reply(setting))),
     }
 }
@@ -45,15 +46,15 @@ fn total_reply(setting: Option<Setting>) -> Reply
     setting.map_or(Reply::NotAFrame, |s| Reply::Total(s.total))
 }
 
-// What a call makes of every session of this setting whose targets have these identities.
-fn at_call(setting: Option<Setting>, ids: &[u16], call: Call) -> Option<Quick>
-    ensures { result ≡ spec.at_call setting ids.now call }
+// What a call makes of every session of this setting whose targets have the identities of these.
+fn at_call<T: Named>(setting: Option<Setting>, among: &[T], call: Call) -> Option<Quick>
+    ensures { result ≡ spec.at_call setting (map T.name among.now) call }
 {
     let Some(s) = setting else {
         return Some(Quick::Stays(Reply::NotAFrame));
     };
     let kind = kind_of(call);
-    let hint = glance(s, ids, call)?;
+    let hint = glance(s, among, call)?;
     Some(match hint {
         Hint::Stays(answer) => Quick::Stays(told(kind, answer)),
         Hint::Puts(p, target) => Quick::Puts(kind, p, target),

@@ -1,7 +1,6 @@
 -- `seek_in` meets its contract.
-use Rattle.std.proofs.Common.{rules, arith, sym, ◌∙◌, ◌<◌, ◌≡◌, ℕ, length, Ok, Some, Result}
+use Rattle.std.proofs.Common.{rules, arith, sym, ◌∙◌, ◌≡◌, Ok}
 use Rattle.std.proofs.iter.Serving.{serving}
-use Rattle.std.specs.Result.{result_ok}
 use Rattle.targets.proofs.Arrays.{held-within}
 use Rattle.targets.specs.Slots.{spot_from}
 use Rattle.board.proofs.Changes.{held-found}

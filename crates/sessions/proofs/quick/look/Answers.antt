@@ -11,11 +11,11 @@ use Rattle.sessions.proofs.quick.look.Goals as goal
 
 pub returns-in_default-clause-value : goal.returns-in_default-clause-value
 unfolding look
-returns-in_default-clause-value c = rw c.in_default.is
+returns-in_default-clause-value g c = rw c.in_default.is
 
 pub returns-in-Fresh-clause-value : goal.returns-in-Fresh-clause-value
 unfolding look
-returns-in-Fresh-clause-value c = elim c.in-Fresh.is [
+returns-in-Fresh-clause-value g c = elim c.in-Fresh.is [
   | inl z ↦ rw (c.in-Some.is, z.1)
   | inr (inl z) ↦ rw (c.in-Some.is, z)
   | inr (inr z) ↦ rw (c.in-Some.is, z)
@@ -23,8 +23,8 @@ returns-in-Fresh-clause-value c = elim c.in-Fresh.is [
 
 pub returns-in-Told-clause-value : goal.returns-in-Told-clause-value
 unfolding look
-returns-in-Told-clause-value c = rw (c.in-Some.is, c.in-Told.is) c.at_call.ensures
+returns-in-Told-clause-value g c = rw (c.in-Some.is, c.in-Told.is) c.at_call.ensures
 
 pub returns-in-Total-clause-value : goal.returns-in-Total-clause-value
 unfolding look
-returns-in-Total-clause-value c = ap (λ (y : Reply Kind Reason). Some (Stays y)) c.total_reply.ensures ∙ rw (c.in-Some.is, c.in-Total.is)
+returns-in-Total-clause-value g c = ap (λ (y : Reply Kind Reason). Some (Stays y)) c.total_reply.ensures ∙ rw (c.in-Some.is, c.in-Total.is)
