@@ -68,7 +68,7 @@ pub fn solve(board: Board, identity: u16) -> Answered
 }
 
 // Any call: its answer, and the board after it. A refused call changes nothing.
-// The entries are long: they are held once here and changed in place.
+// The entries are long: one that is stored takes its place among them, and the rest stay where they are.
 pub fn hear(board: Board, call: Call) -> Answered
     ensures { Answers board call result }
 {
@@ -82,35 +82,15 @@ pub fn hear(board: Board, call: Call) -> Answered
     let found = sought.found;
     let answer = answer_of(board.radius, own, track, found, n, call);
     if answer.is_err() {
-        return Answered {
-            board: Board {
-                radius: board.radius,
-                own,
-                track,
-                targets: Targets {
-                    entries,
-                    count: targets.count,
-                },
-                total: board.total,
-            },
-            answer,
-        };
+        return Answered { board, answer };
     }
     let change = change_of(call, answer, spot, found);
     match change {
         Change::Stays => {}
-        Change::Stores(p, t) => {
-            entries[p] = t;
-        }
-        Change::Inserts(p, t) => {
-            entries = inserted(entries, p, t);
-        }
-        Change::Removes(p) => {
-            entries = closed(entries, p);
-        }
-        Change::Sweeps => {
-            entries = bared(entries);
-        }
+        Change::Stores(p, t) => entries[p] = t,
+        Change::Inserts(p, t) => entries = inserted(entries, p, t),
+        Change::Removes(p) => entries = closed(entries, p),
+        Change::Sweeps => entries = bared(entries),
     }
     Answered {
         board: Board {
@@ -168,6 +148,7 @@ fn answer_of(
 }
 
 // The identity that a call names, or 0.
+// No `Option`: an own ship and a track look at nothing that is found, and for them `hear` would have to make up what a search for no identity gives.
 fn name_of(call: Call) -> u16
     ensures { result ≡ code.name_of call }
 {

@@ -72,7 +72,7 @@ pub fn board_of(setting: Setting, entries: [Target; MOST_TARGETS]) -> Board
 }
 
 // What a call makes of every board of this setting whose targets have the identities of these; none where the entries have to be looked at.
-// Setting and identities stay two parameters: no other function takes this pair, for a report needs the count alone, and a look has a setting or none.
+// Setting and identities stay two parameters: a report needs the count alone, and a look and its calls have a setting or none beside the identities.
 pub fn glance<T: Named>(setting: Setting, among: &[T], call: Call) -> Option<Hint>
     ensures value { result ≡ spec.glance setting (map T.name among.now) call }
     ensures unchanged { among.exit.now ≡ among.entry.now }

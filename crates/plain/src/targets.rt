@@ -20,7 +20,7 @@ pub struct Target {
 }
 
 // The targets that stand: the first `count` entries, all of them where it says more.
-// An array with a count: there is no heap, and a board is a value that is copied.
+// An array with a count: a board is a value that is copied, and an `ArrayVec` is not `Copy`.
 #[derive(Clone, Copy)]
 pub struct Targets {
     pub entries: [Target; MOST_TARGETS],

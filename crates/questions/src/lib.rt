@@ -96,7 +96,7 @@ pub fn fix_asked(fix: Fix) -> Result<(), Refusal>
     speed_asked(fix)
 }
 
-// The ends of a track stay two parameters below: document 01 hands a track over as two positions, and `Ends` is what is made of them.
+// The ends of a track stay two parameters below: each of the three questions would take a struct of the two apart again.
 
 // Are all numbers of the two positions finite?
 fn ends_finite_asked(start: Coordinates, end: Coordinates) -> Result<(), Refusal>

@@ -12,8 +12,7 @@ use wire::kind::Kind;
 use wire::reply::Reply;
 
 // What a quick look tells of a frame.
-// An enum of its own beside `Hint`: what is done carries the kind of its call, which a glance has not. Of one enum generic in both the two would be mapped arm by arm too,
-// and one generic in the reply alone would hold a whole reply, with room for a line, beside each target and setting.
+// An enum of its own, not a reply or a hint beside its kind, as `Called(Kind, Hint)`: who reads that has an arm for a reply and one for an answer, and the session stays in both.
 #[derive(Clone, Copy)]
 pub enum Quick {
     // The reply, and the session stays as it was.

@@ -74,6 +74,7 @@ pub fn pick(board: Board) -> Result<u16, Refusal>
 }
 
 // The least meeting time of these targets, and the first of them that has it.
+// A `reduce` by `sooner`, no `min_by_key`: its clause in std tells less than a fold, and the same promise would take sixty lines of proof more.
 fn soonest(targets: &[Target]) -> Option<Best>
     ensures { result ≡ fold spec.better None targets.now }
 {

@@ -18,7 +18,7 @@ pub mod asking;
 const LAST: usize = MOST_TARGETS - 1;
 
 // What a search for an identity gives: the place where it stands, or as an error that where it would, and what is held under it.
-// A struct of two, no `Result` that holds what is held beside its place: the questions take what is held as an `Option`, and the change takes both.
+// A struct of two, no `Result<(usize, Held), usize>`: the questions take what is held alone, a report and a withdrawal the place alone, and each would map the other away.
 #[derive(Clone, Copy)]
 pub struct Sought {
     pub spot: Result<usize, usize>,
