@@ -1,6 +1,6 @@
 // Functions 70 to 78 and 7a: the sphere, its walks, and all that a line of the board holds.
 ghost use Rattle.std.specs.Prelude.{◌≡◌, length};
-ghost use Rattle.probe_fields.specs.Answered as answered;
+ghost use Rattle.probe_fields.specs.Answered.{Answers};
 ghost use Rattle.probe_fields.specs.Args.{pass};
 ghost use Rattle.probe_fields.specs.Page.{sheet, put_all};
 ghost use Rattle.probe_sphere.specs.Sphere as spec;
@@ -17,10 +17,7 @@ use walks::Outcome;
 #[tactic(auto, unfolding(crate::specs::Sphere::sphere_calls))]
 pub(crate) fn answer(f: u64, args: &mut Args, page: &mut Page) -> bool
     ensures same_reference { page.new.bytes.ghost_name ≡ page.old.bytes.ghost_name }
-    ensures size { length page.new.bytes.now ≡ length page.old.bytes.now }
-    ensures known { result ≡ answered.is_known (spec.sphere_calls f args.old) }
-    ensures written { sheet page.new ≡ answered.over (sheet page.old) (spec.sphere_calls f args.old) }
-    ensures arguments { args.new ≡ answered.rest args.old (spec.sphere_calls f args.old) }
+    ensures answers { Answers (spec.sphere_calls f args.old) page.old page.new args.old args.new result }
 {
     match f {
         0x70 => page.put(Sphere::is_great_circle(args.nvector(), args.nvector())),
