@@ -15,7 +15,7 @@ mod floats;
 mod numbers;
 pub mod page;
 
-// Number, arguments and page are lent one by one, here and above: each arm reads from the one and writes to the other, and would take a struct of the three apart.
+// Number, arguments and page are lent one by one, here and above: of a struct of the three each arm would still name two, as `c.page.put(c.args.float())`.
 
 // Is f a function of these? Then its result is put on the page. It takes its arguments, whether or not the line has as many.
 #[tactic(auto, unfolding(crate::specs::Answer::answer))]
