@@ -1,7 +1,8 @@
 -- What a call of a function by its number comes to: the pieces that are written, and the arguments that are left. Definitions only.
-use Rattle.std.specs.Prelude.{ℕ, Bool, true, false, List, Option, Some, None}
-use Rattle.probe_fields.specs.Page.{Sheet, put_all}
+use Rattle.std.specs.Prelude.{◌≡◌, ℕ, Bool, true, false, List, Option, Some, None, length}
+use Rattle.probe_fields.specs.Page.{Sheet, put_all, sheet}
 use Rattle.probe_fields.specs.declared.args.Args.{Args}
+use Rattle.probe_fields.specs.declared.page.Page.{Page}
 
 pub record Answered : Type 0 where
   pub pieces : List (List ℕ)
@@ -30,3 +31,10 @@ gives pieces left = Some (record { pieces = pieces; left = left })
 abbrev pub or_else : Option Answered → Option Answered → Option Answered
 or_else (Some x) other = Some x
 or_else None other = other
+
+-- what a function leaves of page and arguments, and whether it has that number, where the call comes to x
+pub record Answers (x : Option Answered) (page page' : Page) (args args' : Args) (result : Bool) : Type 0 where
+  pub size : length page'.bytes.now ≡ length page.bytes.now
+  pub known : result ≡ is_known x
+  pub written : sheet page' ≡ over (sheet page) x
+  pub arguments : args' ≡ rest args x

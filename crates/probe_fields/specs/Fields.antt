@@ -40,7 +40,7 @@ word v = digits 16 v ∷ []
 abbrev pub float : Float → List (List ℕ)
 float x = word (to_bits binary64 x)
 
--- the number of an outcome: 2 digits
+-- a number of one byte: 2 digits
 abbrev pub byte : ℕ → List (List ℕ)
 byte n = digits 2 n ∷ []
 

@@ -1,7 +1,6 @@
 // Functions 0c to 0e: durations.
-ghost use Rattle.std.specs.Prelude.{◌≡◌, length};
-ghost use Rattle.probe_fields.specs.Answered as answered;
-ghost use Rattle.probe_fields.specs.Page.{sheet};
+ghost use Rattle.std.specs.Prelude.{◌≡◌};
+ghost use Rattle.probe_fields.specs.Answered.{Answers};
 ghost use Rattle.probe_fields.specs.Durations as spec;
 
 use crate::args::Args;
@@ -11,10 +10,7 @@ use crate::page::Page;
 #[tactic(auto, unfolding(crate::specs::Durations::durations))]
 pub(crate) fn answer(f: u64, args: &mut Args, page: &mut Page) -> bool
     ensures same_reference { page.new.bytes.ghost_name ≡ page.old.bytes.ghost_name }
-    ensures size { length page.new.bytes.now ≡ length page.old.bytes.now }
-    ensures known { result ≡ answered.is_known (spec.durations f args.old) }
-    ensures written { sheet page.new ≡ answered.over (sheet page.old) (spec.durations f args.old) }
-    ensures arguments { args.new ≡ answered.rest args.old (spec.durations f args.old) }
+    ensures answers { Answers (spec.durations f args.old) page.old page.new args.old args.new result }
 {
     match f {
         0x0c => page.put(duration::from_seconds(args.float())),

@@ -36,7 +36,7 @@ impl Fields for f64 {
     }
 }
 
-// The number of an outcome, two digits.
+// A number of one byte, two digits.
 impl Fields for u8 {
     ghost pieces = { fields.byte };
 

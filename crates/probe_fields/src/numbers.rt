@@ -1,7 +1,6 @@
 // Functions 10 to 13: the comparisons of numbers.
-ghost use Rattle.std.specs.Prelude.{◌≡◌, length};
-ghost use Rattle.probe_fields.specs.Answered as answered;
-ghost use Rattle.probe_fields.specs.Page.{sheet};
+ghost use Rattle.std.specs.Prelude.{◌≡◌};
+ghost use Rattle.probe_fields.specs.Answered.{Answers};
 ghost use Rattle.probe_fields.specs.Numbers as spec;
 
 use crate::args::Args;
@@ -11,10 +10,7 @@ use crate::page::Page;
 #[tactic(auto, unfolding(crate::specs::Numbers::numbers))]
 pub(crate) fn answer(f: u64, args: &mut Args, page: &mut Page) -> bool
     ensures same_reference { page.new.bytes.ghost_name ≡ page.old.bytes.ghost_name }
-    ensures size { length page.new.bytes.now ≡ length page.old.bytes.now }
-    ensures known { result ≡ answered.is_known (spec.numbers f args.old) }
-    ensures written { sheet page.new ≡ answered.over (sheet page.old) (spec.numbers f args.old) }
-    ensures arguments { args.new ≡ answered.rest args.old (spec.numbers f args.old) }
+    ensures answers { Answers (spec.numbers f args.old) page.old page.new args.old args.new result }
 {
     match f {
         0x10 => page.put(jord::numbers::eq_zero(args.float())),

@@ -1,7 +1,6 @@
 // Functions 41 to 43: matrices of three rows.
-ghost use Rattle.std.specs.Prelude.{◌≡◌, length};
-ghost use Rattle.probe_fields.specs.Answered as answered;
-ghost use Rattle.probe_fields.specs.Page.{sheet};
+ghost use Rattle.std.specs.Prelude.{◌≡◌};
+ghost use Rattle.probe_fields.specs.Answered.{Answers};
 ghost use Rattle.probe_jord.specs.Mat33 as spec;
 
 use probe_fields::args::Args;
@@ -12,10 +11,7 @@ use vectors::mat33::Mat33;
 #[tactic(auto, unfolding(crate::specs::Mat33::matrices))]
 pub(crate) fn answer(f: u64, args: &mut Args, page: &mut Page) -> bool
     ensures same_reference { page.new.bytes.ghost_name ≡ page.old.bytes.ghost_name }
-    ensures size { length page.new.bytes.now ≡ length page.old.bytes.now }
-    ensures known { result ≡ answered.is_known (spec.matrices f args.old) }
-    ensures written { sheet page.new ≡ answered.over (sheet page.old) (spec.matrices f args.old) }
-    ensures arguments { args.new ≡ answered.rest args.old (spec.matrices f args.old) }
+    ensures answers { Answers (spec.matrices f args.old) page.old page.new args.old args.new result }
 {
     match f {
         0x41 => page.put(args.mat33().transpose()),

@@ -1,7 +1,6 @@
 // Functions 50 to 56 and 66: positions and vehicles.
-ghost use Rattle.std.specs.Prelude.{◌≡◌, length};
-ghost use Rattle.probe_fields.specs.Answered as answered;
-ghost use Rattle.probe_fields.specs.Page.{sheet};
+ghost use Rattle.std.specs.Prelude.{◌≡◌};
+ghost use Rattle.probe_fields.specs.Answered.{Answers};
 ghost use Rattle.probe_jord.specs.Positions as spec;
 
 use jord::positions::{LatLong, NVector};
@@ -12,10 +11,7 @@ use probe_fields::page::Page;
 #[tactic(auto, unfolding(crate::specs::Positions::positions_of))]
 pub(crate) fn answer(f: u64, args: &mut Args, page: &mut Page) -> bool
     ensures same_reference { page.new.bytes.ghost_name ≡ page.old.bytes.ghost_name }
-    ensures size { length page.new.bytes.now ≡ length page.old.bytes.now }
-    ensures known { result ≡ answered.is_known (spec.positions_of f args.old) }
-    ensures written { sheet page.new ≡ answered.over (sheet page.old) (spec.positions_of f args.old) }
-    ensures arguments { args.new ≡ answered.rest args.old (spec.positions_of f args.old) }
+    ensures answers { Answers (spec.positions_of f args.old) page.old page.new args.old args.new result }
 {
     match f {
         0x50 => page.put(LatLong::from_degrees(args.float(), args.float())),

@@ -1,7 +1,6 @@
 // Functions 14 to 28: angles, lengths and speeds, by their amounts in radians, metres and metres a second.
-ghost use Rattle.std.specs.Prelude.{◌≡◌, length};
-ghost use Rattle.probe_fields.specs.Answered as answered;
-ghost use Rattle.probe_fields.specs.Page.{sheet};
+ghost use Rattle.std.specs.Prelude.{◌≡◌};
+ghost use Rattle.probe_fields.specs.Answered.{Answers};
 ghost use Rattle.probe_jord.specs.Units as spec;
 
 use jord::angle::Angle;
@@ -14,10 +13,7 @@ use probe_fields::page::Page;
 #[tactic(auto, unfolding(crate::specs::Units::units))]
 pub(crate) fn answer(f: u64, args: &mut Args, page: &mut Page) -> bool
     ensures same_reference { page.new.bytes.ghost_name ≡ page.old.bytes.ghost_name }
-    ensures size { length page.new.bytes.now ≡ length page.old.bytes.now }
-    ensures known { result ≡ answered.is_known (spec.units f args.old) }
-    ensures written { sheet page.new ≡ answered.over (sheet page.old) (spec.units f args.old) }
-    ensures arguments { args.new ≡ answered.rest args.old (spec.units f args.old) }
+    ensures answers { Answers (spec.units f args.old) page.old page.new args.old args.new result }
 {
     match f {
         0x14 => page.put(Angle::from_degrees(args.float())),

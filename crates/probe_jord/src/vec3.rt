@@ -1,7 +1,6 @@
 // Functions 30 to 40: vectors.
-ghost use Rattle.std.specs.Prelude.{◌≡◌, length};
-ghost use Rattle.probe_fields.specs.Answered as answered;
-ghost use Rattle.probe_fields.specs.Page.{sheet};
+ghost use Rattle.std.specs.Prelude.{◌≡◌};
+ghost use Rattle.probe_fields.specs.Answered.{Answers};
 ghost use Rattle.probe_jord.specs.Vec3 as spec;
 
 use probe_fields::args::Args;
@@ -12,10 +11,7 @@ use vectors::vec3::Vec3;
 #[tactic(auto, unfolding(crate::specs::Vec3::vectors))]
 pub(crate) fn answer(f: u64, args: &mut Args, page: &mut Page) -> bool
     ensures same_reference { page.new.bytes.ghost_name ≡ page.old.bytes.ghost_name }
-    ensures size { length page.new.bytes.now ≡ length page.old.bytes.now }
-    ensures known { result ≡ answered.is_known (spec.vectors f args.old) }
-    ensures written { sheet page.new ≡ answered.over (sheet page.old) (spec.vectors f args.old) }
-    ensures arguments { args.new ≡ answered.rest args.old (spec.vectors f args.old) }
+    ensures answers { Answers (spec.vectors f args.old) page.old page.new args.old args.new result }
 {
     match f {
         0x30 => page.put(args.vec3()),

@@ -1,7 +1,6 @@
 // Functions 60 to 65: angles between vectors, sides and great circles.
-ghost use Rattle.std.specs.Prelude.{◌≡◌, length};
-ghost use Rattle.probe_fields.specs.Answered as answered;
-ghost use Rattle.probe_fields.specs.Page.{sheet};
+ghost use Rattle.std.specs.Prelude.{◌≡◌};
+ghost use Rattle.probe_fields.specs.Answered.{Answers};
 ghost use Rattle.probe_sphere.specs.GreatCircles as spec;
 
 use arcs::base;
@@ -13,10 +12,7 @@ use probe_fields::page::Page;
 #[tactic(auto, unfolding(crate::specs::GreatCircles::great_circles))]
 pub(crate) fn answer(f: u64, args: &mut Args, page: &mut Page) -> bool
     ensures same_reference { page.new.bytes.ghost_name ≡ page.old.bytes.ghost_name }
-    ensures size { length page.new.bytes.now ≡ length page.old.bytes.now }
-    ensures known { result ≡ answered.is_known (spec.great_circles f args.old) }
-    ensures written { sheet page.new ≡ answered.over (sheet page.old) (spec.great_circles f args.old) }
-    ensures arguments { args.new ≡ answered.rest args.old (spec.great_circles f args.old) }
+    ensures answers { Answers (spec.great_circles f args.old) page.old page.new args.old args.new result }
 {
     match f {
         0x60 => page.put(base::angle_radians_between(args.vec3(), args.vec3())),

@@ -1,9 +1,8 @@
 // Great circles and what a board's line holds, by the number of their function, as the program probe takes them.
 #![tactic(auto)]
 
-ghost use Rattle.std.specs.Prelude.{◌≡◌, length};
-ghost use Rattle.probe_fields.specs.Answered as answered;
-ghost use Rattle.probe_fields.specs.Page.{sheet};
+ghost use Rattle.std.specs.Prelude.{◌≡◌};
+ghost use Rattle.probe_fields.specs.Answered.{Answers};
 ghost use Rattle.probe_sphere.specs.Answer as spec;
 
 use probe_fields::args::Args;
@@ -16,10 +15,7 @@ pub mod sphere;
 #[tactic(auto, unfolding(crate::specs::Answer::answer))]
 pub fn answer(f: u64, args: &mut Args, page: &mut Page) -> bool
     ensures same_reference { page.new.bytes.ghost_name ≡ page.old.bytes.ghost_name }
-    ensures size { length page.new.bytes.now ≡ length page.old.bytes.now }
-    ensures known { result ≡ answered.is_known (spec.answer f args.old) }
-    ensures written { sheet page.new ≡ answered.over (sheet page.old) (spec.answer f args.old) }
-    ensures arguments { args.new ≡ answered.rest args.old (spec.answer f args.old) }
+    ensures answers { Answers (spec.answer f args.old) page.old page.new args.old args.new result }
 {
     great_circles::answer(f, args, page) || sphere::answer(f, args, page)
 }

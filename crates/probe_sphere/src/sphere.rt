@@ -1,6 +1,6 @@
 // Functions 70 to 78 and 7a: the sphere, its walks, and all that a line of the board holds.
 ghost use Rattle.std.specs.Prelude.{◌≡◌, length};
-ghost use Rattle.probe_fields.specs.Answered as answered;
+ghost use Rattle.probe_fields.specs.Answered.{Answers};
 ghost use Rattle.probe_fields.specs.Args.{pass};
 ghost use Rattle.probe_fields.specs.Page.{sheet, put_all};
 ghost use Rattle.probe_sphere.specs.Sphere as spec;
@@ -8,8 +8,10 @@ ghost use Rattle.probe_sphere.specs.Sphere as spec;
 use arcs::great_circle::GreatCircle;
 use jord::length::Length;
 use jord::positions::NVector;
+use plain::line::{Ends, Scene};
 use probe_fields::args::Args;
 use probe_fields::page::Page;
+use questions::line::solve_line;
 use spherical::sphere::Sphere;
 use walks::Outcome;
 
@@ -17,10 +19,7 @@ use walks::Outcome;
 #[tactic(auto, unfolding(crate::specs::Sphere::sphere_calls))]
 pub(crate) fn answer(f: u64, args: &mut Args, page: &mut Page) -> bool
     ensures same_reference { page.new.bytes.ghost_name ≡ page.old.bytes.ghost_name }
-    ensures size { length page.new.bytes.now ≡ length page.old.bytes.now }
-    ensures known { result ≡ answered.is_known (spec.sphere_calls f args.old) }
-    ensures written { sheet page.new ≡ answered.over (sheet page.old) (spec.sphere_calls f args.old) }
-    ensures arguments { args.new ≡ answered.rest args.old (spec.sphere_calls f args.old) }
+    ensures answers { Answers (spec.sphere_calls f args.old) page.old page.new args.old args.new result }
 {
     match f {
         0x70 => page.put(Sphere::is_great_circle(args.nvector(), args.nvector())),
@@ -74,28 +73,24 @@ fn meeting(args: &mut Args) -> Outcome
 
 // Of radius, own ship, the track's ends and target, what a board's line has of them: distance, bearing, side and offset,
 // then closest approach, meeting at own speed and longest time to meet.
+#[tactic(auto, unfolding(plain::specs::Line::solve_line))]
 fn put_solve(page: &mut Page, args: &mut Args)
     ensures same_reference { page.new.bytes.ghost_name ≡ page.old.bytes.ghost_name }
     ensures size { length page.new.bytes.now ≡ length page.old.bytes.now }
     ensures written { sheet page.new ≡ put_all (sheet page.old) (spec.solve args.old) }
     ensures place { args.new ≡ spec.past_solve args.old }
 {
-    let s = sphere_of(args);
+    let radius = args.float();
     let own = args.vehicle();
-    let start = args.nvector();
-    let end = args.nvector();
-    let target = args.vehicle();
-    let p = target.position();
+    let track = Ends {
+        start: args.nvector(),
+        end: args.nvector(),
+    };
+    let report = args.vehicle();
+    let line = solve_line(radius, Scene { own, track, report });
     page.put((
-        (
-            s.distance(own.position(), p),
-            Sphere::initial_bearing(own.position(), p),
-        ),
-        (Sphere::side(p, start, end), offset(s, p, start, end)),
-        (
-            s.time_to_cpa(own, target),
-            s.time_to_intercept(own.position(), own.speed(), target),
-            s.max_time_to_intercept(own.position(), target),
-        ),
+        (line.distance, line.bearing),
+        (line.side, line.offset),
+        (line.closest, line.meeting, line.longest),
     ));
 }

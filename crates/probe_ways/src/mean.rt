@@ -1,9 +1,8 @@
 // Functions 79 and 8d: the mean of as many coordinates, or positions, as the line has.
-ghost use Rattle.std.specs.Prelude.{◌≡◌, length};
+ghost use Rattle.std.specs.Prelude.{◌≡◌};
 ghost use Rattle.means.specs.Mean as means;
-ghost use Rattle.probe_fields.specs.Answered as answered;
+ghost use Rattle.probe_fields.specs.Answered.{Answers};
 ghost use Rattle.probe_fields.specs.Args.{pass_rest};
-ghost use Rattle.probe_fields.specs.Page.{sheet};
 ghost use Rattle.probe_ways.specs.Mean as spec;
 
 use jord::positions::NVector;
@@ -20,10 +19,7 @@ const POSITIONS: usize = ARGUMENTS / 3;
 #[tactic(auto, unfolding(crate::specs::Mean::mean_calls))]
 pub(crate) fn answer(f: u64, args: &mut Args, page: &mut Page) -> bool
     ensures same_reference { page.new.bytes.ghost_name ≡ page.old.bytes.ghost_name }
-    ensures size { length page.new.bytes.now ≡ length page.old.bytes.now }
-    ensures known { result ≡ answered.is_known (spec.mean_calls f args.old) }
-    ensures written { sheet page.new ≡ answered.over (sheet page.old) (spec.mean_calls f args.old) }
-    ensures arguments { args.new ≡ answered.rest args.old (spec.mean_calls f args.old) }
+    ensures answers { Answers (spec.mean_calls f args.old) page.old page.new args.old args.new result }
 {
     match f {
         0x79 => page.put(of_coordinates(args)),

@@ -1,8 +1,7 @@
 // Functions 80 to 8c: projections, minor arcs, and the ways and angles on the sphere that no board needs.
-ghost use Rattle.std.specs.Prelude.{◌≡◌, length};
-ghost use Rattle.probe_fields.specs.Answered as answered;
+ghost use Rattle.std.specs.Prelude.{◌≡◌};
+ghost use Rattle.probe_fields.specs.Answered.{Answers};
 ghost use Rattle.probe_fields.specs.Args.{pass, pass6, pass9};
-ghost use Rattle.probe_fields.specs.Page.{sheet};
 ghost use Rattle.probe_ways.specs.Ways as spec;
 
 use arcs::great_circle::GreatCircle;
@@ -20,10 +19,7 @@ use spherical::sphere::Sphere;
 #[tactic(auto, unfolding(crate::specs::Ways::ways))]
 pub(crate) fn answer(f: u64, args: &mut Args, page: &mut Page) -> bool
     ensures same_reference { page.new.bytes.ghost_name ≡ page.old.bytes.ghost_name }
-    ensures size { length page.new.bytes.now ≡ length page.old.bytes.now }
-    ensures known { result ≡ answered.is_known (spec.ways f args.old) }
-    ensures written { sheet page.new ≡ answered.over (sheet page.old) (spec.ways f args.old) }
-    ensures arguments { args.new ≡ answered.rest args.old (spec.ways f args.old) }
+    ensures answers { Answers (spec.ways f args.old) page.old page.new args.old args.new result }
 {
     match f {
         0x80 => page.put(great_circle(args).projection(args.nvector())),
