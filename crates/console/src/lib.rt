@@ -1,4 +1,4 @@
-// What the programs share: how one goes on after a read, and what it says on standard error.
+// How a program goes on after a read, and what it says on standard error.
 #![tactic(auto)]
 
 ghost use Rattle.std.specs.Prelude.{◌≡◌, ◌≤◌, false, true, IsOk, OnOk, length, ltb};
@@ -22,7 +22,7 @@ pub fn way_of(got: io::Result<usize>) -> Result<Option<usize>, Failure>
     ensures { result ≡ way_of got }
 {
     let n = got.map_err(Failure::Reading)?;
-    Ok(if n > 0 { Some(n) } else { None })
+    Ok((n > 0).then_some(n))
 }
 
 // Says in a line of the program's own words which failed, the reading or the writing, and why.
@@ -125,8 +125,6 @@ fn word(text: &[u8]) -> &[u8] {
     let Ok(all) = std::str::from_utf8(text) else {
         return text;
     };
-    match all.split_once(" (os error ") {
-        Some((word, _)) => word.as_bytes(),
-        None => text,
-    }
+    all.split_once(" (os error ")
+        .map_or(text, |(word, _)| word.as_bytes())
 }

@@ -95,8 +95,8 @@ fn of_kind(kind: Kind, s: &[u8]) -> Option<Frame>
     })
 }
 
-// `digits` says what the line is, not whether there is one: a line that is not digits alone has no frame.
-// The frame that a line without its newline is, for who knows by `digits` whether it is digits alone: where it is not, and is said to be, bytes count by their low bits.
+// The frame that a line without its newline is, told by `digits` whether it is digits alone. Of a line that is not, and is said to be, bytes count by their low bits.
+// It takes `digits` and no `Option` of a line: `digits` says what the line is, not whether there is one, and a line that is not digits alone has no frame.
 pub fn read_known(s: &[u8], digits: bool) -> Option<Frame>
     ensures value { result ≡ known.frame_known digits s.now }
     ensures unchanged { s.exit.now ≡ s.entry.now }

@@ -1,8 +1,10 @@
 // The kinds of frames, and of the replies to them.
 ghost use Rattle.std.specs.Prelude.{ℕ, ◌≡◌};
+ghost use Rattle.arcs.specs.Side.{side_number};
 ghost use Rattle.wire.specs.Kind as spec;
 
 use crate::frame::{ASKED, FRESH, MOST_FRAME_DIGITS, NAMED, OWN_SHIP, REPORT};
+use arcs::Side;
 
 // What a frame asks for. The numbers are document 01's.
 #[derive(Clone, Copy)]
@@ -18,7 +20,7 @@ pub enum Kind {
     Total = 8,
 }
 
-// What a byte of a reply stands for: a kind, a reason, or nothing but itself.
+// What a byte of a reply stands for: a kind, a reason, a side, or nothing but itself.
 pub trait Byte: Copy {
     ghost byte: { Self → ℕ };
 
@@ -36,6 +38,14 @@ impl Byte for u8 {
 
 impl Byte for Kind {
     ghost byte = { spec.number_of };
+
+    fn byte(self) -> u8 {
+        self.number()
+    }
+}
+
+impl Byte for Side {
+    ghost byte = { side_number };
 
     fn byte(self) -> u8 {
         self.number()

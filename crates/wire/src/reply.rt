@@ -2,11 +2,9 @@
 ghost use Rattle.std.specs.Prelude.{◌≡◌, ◌+◌, ◌≤◌, length};
 ghost use Rattle.hex_digits.specs.Hex.{digits};
 ghost use Rattle.hex_digits.specs.Write.{Put, Wrote};
-ghost use Rattle.arcs.specs.Side.{side_number};
 ghost use Rattle.wire.specs.Reply as spec;
 
 use crate::kind::{Byte, Kind};
-use arcs::Side;
 use means::NoMean;
 use plain::call::Refusal;
 use plain::line::Line;
@@ -61,7 +59,7 @@ pub enum Reply<K = Kind, R = Reason> {
     NotAFrame,
 }
 
-// The page and a place stay two parameters: in a struct the page would be lent within a lent value, `self.old.bytes.now` where a contract says `out.old`.
+// The page and a place stay two parameters: `put`, which is public, is handed both, and `hex_digits::put_number`, in which each of these ends, takes both.
 
 // The two digits of a byte.
 fn put_byte<B: Byte>(out: &mut [u8], at: usize, b: B) -> usize
@@ -71,22 +69,13 @@ fn put_byte<B: Byte>(out: &mut [u8], at: usize, b: B) -> usize
     hex_digits::put_number(out, at, b.byte() as u64, 2)
 }
 
-// A kind, and 00 for done: four digits.
-fn put_done<K: Byte>(out: &mut [u8], at: usize, kind: K) -> usize
+// A kind, and a number, 00 for done, or why it is refused: four digits.
+fn put_head<K: Byte, N: Byte>(out: &mut [u8], at: usize, kind: K, number: N) -> usize
     requires { at + 4 ≤ length out.old }
-    ensures { Wrote out.old at 4 (spec.two (K.byte kind) 0) out.new result }
+    ensures { Wrote out.old at 4 (spec.two (K.byte kind) (N.byte number)) out.new result }
 {
     let next = put_byte(out, at, kind);
-    hex_digits::put_number(out, next, 0, 2)
-}
-
-// A kind, and why it is refused: four digits.
-fn put_refused<K: Byte, R: Byte>(out: &mut [u8], at: usize, kind: K, why: R) -> usize
-    requires { at + 4 ≤ length out.old }
-    ensures { Wrote out.old at 4 (spec.two (K.byte kind) (R.byte why)) out.new result }
-{
-    let next = put_byte(out, at, kind);
-    put_byte(out, next, why)
+    put_byte(out, next, number)
 }
 
 // The 16 digits of a float's bits.
@@ -95,14 +84,6 @@ fn put_float(out: &mut [u8], at: usize, x: f64) -> usize
     ensures { Wrote out.old at 16 (spec.float_digits x) out.new result }
 {
     hex_digits::put_number(out, at, patterns::to_bits(x), 16)
-}
-
-// The two digits of a side.
-fn put_side(out: &mut [u8], at: usize, side: Side) -> usize
-    requires { at + 2 ≤ length out.old }
-    ensures { Wrote out.old at 2 (digits 2 (side_number side)) out.new result }
-{
-    hex_digits::put_number(out, at, side.number() as u64, 2)
 }
 
 // Number, nanoseconds and count of an outcome: 20 digits.
@@ -122,7 +103,7 @@ fn put_line(out: &mut [u8], at: usize, line: Line) -> usize
 {
     let a = put_float(out, at, line.distance);
     let b = put_float(out, a, line.bearing);
-    let c = put_side(out, b, line.side);
+    let c = put_byte(out, b, line.side);
     let d = put_float(out, c, line.offset);
     let e = put_outcome(out, d, line.closest);
     let f = put_outcome(out, e, line.meeting);
@@ -158,22 +139,22 @@ fn write<K: Byte, R: Byte>(out: &mut [u8], at: usize, reply: Reply<K, R>) -> usi
     ensures { Wrote out.old at (length (spec.digits_by K.byte R.byte reply)) (spec.digits_by K.byte R.byte reply) out.new result }
 {
     match reply {
-        Reply::Done(kind) => put_done(out, at, kind),
-        Reply::Refused(kind, why) => put_refused(out, at, kind, why),
+        Reply::Done(kind) => put_head(out, at, kind, 0u8),
+        Reply::Refused(kind, why) => put_head(out, at, kind, why),
         Reply::Solved(line) => {
-            let next = put_done(out, at, Kind::Solve);
+            let next = put_head(out, at, Kind::Solve, 0u8);
             put_line(out, next, line)
         }
         Reply::Mean(p) => {
-            let next = put_done(out, at, Kind::Mean);
+            let next = put_head(out, at, Kind::Mean, 0u8);
             put_position(out, next, p)
         }
         Reply::Pick(identity) => {
-            let next = put_done(out, at, Kind::Pick);
+            let next = put_head(out, at, Kind::Pick, 0u8);
             hex_digits::put_number(out, next, identity as u64, 4)
         }
         Reply::Total(total) => {
-            let next = put_done(out, at, Kind::Total);
+            let next = put_head(out, at, Kind::Total, 0u8);
             hex_digits::put_number(out, next, total as u64, 8)
         }
         Reply::NotAFrame => hex_digits::put_number(out, at, NOT_A_FRAME, 4),

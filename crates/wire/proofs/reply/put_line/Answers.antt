@@ -7,5 +7,5 @@ pub returns : goal.returns
 unfolding line_digits
 returns c =
     let a = then c.put_float-a.ensures c.put_float-b.ensures in
-    let b = then (then a c.put_side-c.ensures) c.put_float-d.ensures in
+    let b = then (then a c.put_byte-c.ensures) c.put_float-d.ensures in
     then (then (then b c.put_outcome-e.ensures) c.put_outcome-f.ensures) c.put_outcome.ensures

@@ -1,7 +1,0 @@
--- The digits of the side's number.
-use Rattle.hex_digits.proofs.Write.{number-wrote}
-use Rattle.wire.proofs.reply.put_side.Goals as goal
-
-pub returns : goal.returns
-returns c =
-    rw c.number.ensures at (number-wrote 2 _ c.put_number.ensures c.requires)
