@@ -1,13 +1,7 @@
 -- `to_radians` meets its contract.
-use mathlib.Core.Path.{◌≡◌, refl, ◌∙◌}
-use Rattle.std.specs.Float as std
-use lib.Ieee.{Float, binary64, of_int, of_bits}
-use Rattle.float.specs.Degrees as spec
+use lib.Ieee.{of_int, of_bits}
 use Rattle.float.proofs.degrees.to_radians.Goals as goal
 
-same : (x : Float) → std.to_radians binary64 x ≡ spec.to_radians x
-unfolding of_int of_bits
-same x = refl
-
 pub returns : goal.returns
-returns c = c.to_radians.ensures ∙ same _
+unfolding of_int of_bits
+returns c = c.to_radians.ensures
