@@ -4,7 +4,6 @@ use Rattle.std.proofs.Common.{inl, inr, le_trans, le_of_eq, lt_of_lt_of_le, le_o
 use Rattle.std.proofs.Common.{mul_comm, eq-zero-or-pos, mul-le-mul_left, mul-lt-mul_of_pos_right, mul-pos, zero-mul, mul_right_comm, arith, pow_pos, pow_mono, pow-add}
 use Rattle.std.proofs.Common.{◌||◌, eqb→eq, true≢false}
 use mathlib.Core.Bool.{beq}
-use Rattle.std.specs.Float.{float_is_infinite}
 use native.Mathlib.Nat.{eq_of_mul-eq-mul_right}
 use lib.Dec.{eqb-suc-zero}
 use lib.Ieee.{Float, nan, inf, fin, binary64, up, down, odd, round, rem, neg, of_bits, to_bits, fits, eq, is_nan}
@@ -88,17 +87,11 @@ below-infinity (inf true) h = let z : ⊥ = omega arith in absurd z
 below-infinity (inf false) h = let z : ⊥ = omega arith in absurd z
 below-infinity (fin s m e) h = tt
 
-pub no-infinity : (x : Float) → T (not (is_nan x)) → float_is_infinite x ≡ false → T (finite x)
-unfolding is_nan float_is_infinite
-no-infinity nan n h = n
-no-infinity (inf s) n h = absurd (true≢false h)
-no-infinity (fin s m e) n h = tt
-
-pub rem-of-infinity : (x y : Float) → float_is_infinite x ≡ true → rem binary64 x y ≡ nan
-unfolding rem float_is_infinite
-rem-of-infinity nan y h = refl
-rem-of-infinity (inf s) y h = refl
-rem-of-infinity (fin s m e) y h = absurd (true≢false (sym h))
+pub rem-of-infinity : (x y : Float) → T (fits binary64 x) → T (not (is_nan x)) → 2047 * 2 ^ 52 ≤ to_bits binary64 x % 2 ^ 63 → rem binary64 x y ≡ nan
+unfolding rem is_nan
+rem-of-infinity nan y f n h = refl
+rem-of-infinity (inf s) y f n h = refl
+rem-of-infinity (fin s m e) y f n h = let l = field_lt (fin s m e) f tt in let z : ⊥ = omega arith in absurd z
 
 pub rem-by-zero : (x y : Float) → T (finite x) → eq y (of_bits binary64 0) ≡ true → rem binary64 x y ≡ nan
 unfolding rem eq of_bits

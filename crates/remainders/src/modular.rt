@@ -41,7 +41,7 @@ impl Modulus {
     {
         let mut quotient = 0;
         let mut rest = FIELD;
-        for _i in 0..5u64 {
+        for _ in 0..5 {
             quotient = quotient * 2048 + rest * 2048 / self.m;
             rest = rest * 2048 % self.m;
         }
