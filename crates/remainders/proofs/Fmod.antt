@@ -1,10 +1,14 @@
 -- `rem` of two finite values is the remainder of their numbers of units, and the patterns order the magnitudes. Assumes nothing.
-use Rattle.std.proofs.Common.{◌≡◌, ℕ, zero, suc, ◌+◌, ◌-◌, ◌*◌, ◌%◌, ◌^◌, ◌<◌, ◌≤◌, Bool, true, false, cond, not, T, eqb, ℤ, pos, sym, refl, ap, ◌∙◌, subst, inl, inr, le_trans, le_of_eq, lt_of_lt_of_le, le_of_lt, lt_irrefl, mul-le-mul_right, mod-lt, mod-eq_of_lt, zero-lt-suc, mul_assoc, mul_comm, eq-zero-or-pos, mul-le-mul_left, mul-lt-mul_of_pos_right, mul-pos, zero-mul, mul_right_comm, arith, pow_pos, pow_mono, pow-add}
+use Rattle.std.proofs.Common.{◌≡◌, ℕ, zero, suc, ◌+◌, ◌-◌, ◌*◌, ◌%◌, ◌^◌, ◌<◌, ◌≤◌, Bool, true, false, cond, not, T, eqb, ℤ, pos, sym, refl, ap, ap₂, ◌∙◌, subst}
+use Rattle.std.proofs.Common.{inl, inr, le_trans, le_of_eq, lt_of_lt_of_le, le_of_lt, lt_irrefl, mul-le-mul_right, mod-lt, mod-eq_of_lt, zero-lt-suc, mul_assoc}
+use Rattle.std.proofs.Common.{mul_comm, eq-zero-or-pos, mul-le-mul_left, mul-lt-mul_of_pos_right, mul-pos, zero-mul, mul_right_comm, arith, pow_pos, pow_mono, pow-add}
+use Rattle.std.proofs.Common.{◌||◌, eqb→eq, true≢false}
+use mathlib.Core.Bool.{beq}
 use native.Mathlib.Nat.{eq_of_mul-eq-mul_right}
 use lib.Dec.{eqb-suc-zero}
-use lib.Ieee.{Float, nan, inf, fin, binary64, up, down, odd, round, rem, neg, of_bits, to_bits, fits, is_nan}
+use lib.Ieee.{Float, nan, inf, fin, binary64, up, down, odd, round, rem, neg, of_bits, to_bits, fits, eq, is_nan}
 use lib.Ieee.Exact.{HasValue, odd_sign, round_exact}
-use lib.Ieee.Fits.{up_pos, down_pos, rem-fits}
+use lib.Ieee.Fits.{up_pos, down_pos, and_l, rem-fits}
 use lib.Ieee.Scale.{finite}
 use Rattle.patterns.specs.Bits.{magnitude, sign_bit, digits, place}
 use Rattle.patterns.proofs.Pattern.{Placed}
@@ -89,22 +93,40 @@ rem-of-infinity nan y f n h = refl
 rem-of-infinity (inf s) y f n h = refl
 rem-of-infinity (fin s m e) y f n h = let l = field_lt (fin s m e) f tt in let z : ⊥ = omega arith in absurd z
 
-zero-digits : (y : Float) → magnitude y ≡ fin false 0 (pos 0) → (x : Float) → T (finite x) → rem binary64 x y ≡ nan
-unfolding rem
-zero-digits nan h x t = let z : ◌≡◌ {A = ℕ} 0 1 = cc in let w : ⊥ = omega arith in absurd w
-zero-digits (inf s) h x t = let z : ◌≡◌ {A = ℕ} 0 1 = cc in let w : ⊥ = omega arith in absurd w
-zero-digits (fin s n d) h nan t = refl
-zero-digits (fin s n d) h (inf r) t = refl
-zero-digits (fin s n d) h (fin r m e) t =
+pub rem-by-zero : (x y : Float) → T (finite x) → eq y (of_bits binary64 0) ≡ true → rem binary64 x y ≡ nan
+unfolding rem eq of_bits
+rem-by-zero nan y t h = refl
+rem-by-zero (inf r) y t h = refl
+rem-by-zero (fin r m e) nan t h = refl
+rem-by-zero (fin r m e) (inf s) t h = absurd (true≢false (sym h))
+rem-by-zero (fin r m e) (fin s zero d) t h = refl
+rem-by-zero (fin r m e) (fin s (suc n) d) t h =
+    let z : suc n * up d * 1 ≡ 0 * 1 * down d = eqb→eq (suc n * up d * 1) (0 * 1 * down d)
+    (and_l (eqb (suc n * up d * 1) (0 * 1 * down d)) (beq s false || eqb (suc n * up d * 1) 0) (subst T (sym h) tt)) in
+    let p : 0 < suc n * up d * 1 = mul-pos (mul-pos (zero-lt-suc n) (up_pos d)) (zero-lt-suc 0) in
+    let w : ⊥ = omega arith in
+    absurd w
+
+-- a pattern of no digits is a zero's
+zero-magnitude : (y : Float) → magnitude y ≡ fin false 0 (pos 0) → eq y (of_bits binary64 0) ≡ true
+unfolding eq of_bits
+zero-magnitude nan h = let z : ◌≡◌ {A = ℕ} 0 1 = cc in let w : ⊥ = omega arith in absurd w
+zero-magnitude (inf s) h = let z : ◌≡◌ {A = ℕ} 0 1 = cc in let w : ⊥ = omega arith in absurd w
+zero-magnitude (fin s n d) h =
     let z : n ≡ 0 = cc in
-    ap (λ (k : ℕ). cond (eqb k 0) nan (round binary64 r (m * up e * down d % (n * up d * down e)) (down e * down d))) z
+    let y : d ≡ pos 0 = cc in
+    ap₂ (λ (k : ℕ) (j : ℤ). eq (fin s k j) (fin false 0 (pos 0))) z y ∙ level s
+  where
+    level : (s : Bool) → eq (fin s 0 (pos 0)) (fin false 0 (pos 0)) ≡ true
+    level true = refl
+    level false = refl
 
 zero-read : of_bits binary64 0 ≡ fin false 0 (pos 0)
 unfolding of_bits
 zero-read = refl
 
-pub rem-by-zero : (x y : Float) → T (fits binary64 y) → T (finite x) → to_bits binary64 y % 2 ^ 63 ≡ 0 → rem binary64 x y ≡ nan
-rem-by-zero x y f t h = zero-digits y (sym (magnitude-of y f) ∙ ap (of_bits binary64) h ∙ zero-read) x t
+no-zero : (y : Float) → T (fits binary64 y) → eq y (of_bits binary64 0) ≡ false → to_bits binary64 y % 2 ^ 63 ≡ 0 → ⊥
+no-zero y f h e = true≢false (sym (zero-magnitude y (sym (magnitude-of y f) ∙ ap (of_bits binary64) e ∙ zero-read)) ∙ h)
 
 -- ---- of two finite patterns the smaller has the smaller magnitude
 pub units-order : (q k r j : ℕ) → Placed q k → Placed r j → k * 2 ^ 52 + q < j * 2 ^ 52 + r → q * 2 ^ k < r * 2 ^ j
@@ -192,7 +214,7 @@ pub record Divides (x y : Float) : Type 0 where
   pub order : place_of y ≤ place_of x
   pub is : rem binary64 x y ≡ with_sign (sign_bit x) (rem_parts (digits_of x) (place_of x) (digits_of y) (place_of y))
 
-pub rem-of-larger : (x y : Float) → T (fits binary64 x) → T (fits binary64 y) → T (finite x) → (to_bits binary64 y % 2 ^ 63 ≡ 0 → ⊥)
+pub rem-of-larger : (x y : Float) → T (fits binary64 x) → T (fits binary64 y) → T (finite x) → eq y (of_bits binary64 0) ≡ false
     → to_bits binary64 y % 2 ^ 63 ≤ to_bits binary64 x % 2 ^ 63 → Divides x y
 rem-of-larger x y f g t z h =
     let i = field_lt x f t in
@@ -202,7 +224,7 @@ rem-of-larger x y f g t z h =
     let a = (taken (to_bits binary64 x) i).pattern in
     let b = (taken (to_bits binary64 y) (field_lt y g u)).pattern in
     let o : place_of y ≤ place_of x = places (digits_of x) (place_of x) (digits_of y) (place_of y) p.placed q.placed (omega arith) in
-    let D : 0 < digits_of y = nonzero (digits_of y) (place_of y) q.placed (λ (e : place_of y * 2 ^ 52 + digits_of y ≡ 0). z (b ∙ e)) in
+    let D : 0 < digits_of y = nonzero (digits_of y) (place_of y) q.placed (λ (e : place_of y * 2 ^ 52 + digits_of y ≡ 0). no-zero y g z (b ∙ e)) in
     let j = place_of y in
     let Q = digits_of x * 2 ^ (place_of x - j) in
     let s : Q % digits_of y < 2 ^ 53 = lt_of_lt_of_le (mod-lt Q D) (le_of_lt q.placed.small) in

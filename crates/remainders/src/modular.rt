@@ -41,6 +41,7 @@ impl Modulus {
     {
         let mut quotient = 0;
         let mut rest = FIELD;
+        // The count has a name, for the invariant goes by it.
         for _i in 0..5u64 {
             quotient = quotient * 2048 + rest * 2048 / self.m;
             rest = rest * 2048 % self.m;

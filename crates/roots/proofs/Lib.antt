@@ -1,4 +1,3 @@
-pub mod Digits
 pub mod WholeRoot
 pub mod RoundRoot
 pub mod Lifted

@@ -7,7 +7,7 @@ use mathlib.Core.Bool.{Bool, true, false, ◌&&◌, ◌||◌, beq, not, true≢f
 use lib.Dec.{T, eqb, ltb, eqb→eq, ltb→lt, lt→ltb}
 use lib.IntN.{ℤ}
 use lib.Ieee.{Float, nan, inf, fin, binary64, up, down, of_bits, to_bits, fits, eq, lt, is_nan}
-use lib.Ieee.Bits.{is_true, of_bits-to_bits}
+use lib.Ieee.Bits.{is_true}
 use lib.Ieee.Exact.{HasValue}
 use lib.Ieee.Fits.{down_pos, up_pos, and_l}
 use lib.Ieee.Positive.{positive, positive-finite, first_pos, value_pos}
@@ -52,11 +52,12 @@ at-negative (fin false m e) h =
     let w : ⊥ = omega arith in
     absurd w
 
-pub at-infinity : (x : Float) → T (fits binary64 x) → to_bits binary64 x ≡ 2047 * 2 ^ 52 → sqrt x ≡ x
-unfolding of_bits sqrt
-at-infinity x f e =
-    let i : x ≡ inf false = sym (of_bits-to_bits binary64 x f) ∙ ap (of_bits binary64) e in
-    ap sqrt i ∙ sym i
+pub at-infinity : (x : Float) → eq x (inf false) ≡ true → sqrt x ≡ x
+unfolding eq sqrt
+at-infinity nan h = refl
+at-infinity (inf true) h = absurd (true≢false (sym h))
+at-infinity (inf false) h = refl
+at-infinity (fin s m e) h = absurd (true≢false (sym h))
 
 -- ---- none of these: a positive finite value
 level-zero : (a b : ℕ) (s : Bool) → a ≡ 0 → b ≡ 0 → (eqb a b && (beq s false || eqb a 0)) ≡ true
@@ -66,11 +67,11 @@ level-zero a b s p q = ap (λ (y : ℕ). eqb y b && (beq s false || eqb y 0)) p 
     last true = refl
     last false = refl
 
-pub left_over : (x : Float) → T (not (is_nan x)) → eq x (of_bits binary64 0) ≡ false → lt x (of_bits binary64 0) ≡ false → (to_bits binary64 x ≡ 2047 * 2 ^ 52 → ⊥) → T (positive x)
-unfolding is_nan eq lt of_bits to_bits
+pub left_over : (x : Float) → T (not (is_nan x)) → eq x (of_bits binary64 0) ≡ false → lt x (of_bits binary64 0) ≡ false → eq x (inf false) ≡ false → T (positive x)
+unfolding is_nan eq lt of_bits
 left_over nan h k l n = absurd h
 left_over (inf true) h k l n = absurd (true≢false l)
-left_over (inf false) h k l n = absurd (n refl)
+left_over (inf false) h k l n = absurd (true≢false n)
 left_over (fin s zero e) h k l n = let u = zero-units e in absurd (true≢false (sym (level-zero (0 * up e * 1) (0 * 1 * down e) s u.0 u.1) ∙ k))
 left_over (fin true (suc m) e) h k l n =
     let p : 0 < suc m * up e * 1 = mul-pos (mul-pos (zero-lt-suc m) (up_pos e)) (zero-lt-suc 0) in

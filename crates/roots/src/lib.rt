@@ -4,7 +4,7 @@
 ghost use Rattle.std.specs.Prelude.{◌≡◌, ◌&&◌, not, ◌+◌, ◌-◌, ◌*◌, ◌/◌, ◌^◌, ◌≤◌, ◌<◌, leb};
 ghost use Rattle.roots.specs.Root as spec;
 
-use patterns::{FIELD, INFINITY, Unpacked, unpack};
+use patterns::{FIELD, Unpacked, unpack};
 
 // The root of m * 2^54 is sought: of 53 or 54 bits, for the power of two that is left is even.
 #[derive(Clone, Copy)]
@@ -34,22 +34,11 @@ fn is_half_root(r: u64, m: u64) -> bool
 }
 
 impl Radicand {
-    // The whole part of the root, digit by digit.
-    fn root_by_digits(self) -> u64
+    // The whole part of the root of m * 2^54.
+    fn whole_root(self) -> u64
         ensures { (result ≡ spec.whole_root (self.m * 2 ^ 54)) × (result < 2 ^ 54) }
     {
-        let mut root: u64 = 0;
-        let mut rest: u64 = self.m;
-        for place in (0..54u32).rev() {
-            let bit = 1 << place;
-            rest *= 2;
-            let t = root * 2 + bit;
-            if t <= rest {
-                rest -= t;
-                root += bit;
-            }
-        }
-        root
+        (u128::from(self.m) << 54).isqrt() as u64
     }
 
     // m * 2^-52 for an m from 2^52 up. Nothing rests on it.
@@ -74,7 +63,7 @@ impl Radicand {
         f64::to_bits(d) % FIELD + FIELD
     }
 
-    // Half the root, to the nearest whole number: the estimate, moved by one at most, or else digit by digit.
+    // Half the root, to the nearest whole number: the estimate, moved by one at most, or else by the whole root.
     fn half_root(self) -> u64
         ensures { result ≡ (spec.whole_root (self.m * 2 ^ 54) + 1) / 2 }
     {
@@ -88,7 +77,7 @@ impl Radicand {
         if is_half_root(r - 1, self.m) {
             return r - 1;
         }
-        (self.root_by_digits() + 1) / 2
+        (self.whole_root() + 1) / 2
     }
 }
 
@@ -117,9 +106,8 @@ pub fn sqrt(x: f64) -> f64
     if x < 0.0 {
         return f64::NAN;
     }
-    let bits = f64::to_bits(x);
-    if bits == INFINITY {
+    if x == f64::INFINITY {
         return x;
     }
-    root_of(unpack(bits))
+    root_of(unpack(f64::to_bits(x)))
 }

@@ -23,9 +23,8 @@ returns-then-p-ge-INFINITY c =
     let x = c.args.x in
     nan_constant ∙ sym (rem-of-infinity x c.args.y (held x c.well_formed.0.1) (told-not-nan x c.is_nan.ensures.value c.if-is_nan.false) c.if-p-ge-INFINITY.true)
 
-pub returns-then-q-eq0 : goal.returns-then-q-eq0
-returns-then-q-eq0 c =
-    nan_constant ∙ sym (rem-by-zero c.args.x c.args.y (held c.args.y c.well_formed.1.0.1) (below-infinity c.args.x c.if-p-ge-INFINITY.false) c.if-q-eq0.true)
+pub returns-then-y : goal.returns-then-y
+returns-then-y c = nan_constant ∙ sym (rem-by-zero c.args.x c.args.y (below-infinity c.args.x c.if-p-ge-INFINITY.false) c.if-y.true)
 
 pub returns-then-p-q : goal.returns-then-p-q
 returns-then-p-q c =
@@ -36,7 +35,7 @@ returns-then-p-q c =
 divides : (c : After-unpack-2) → Divides c.args.x c.args.y
 divides c =
     rem-of-larger c.args.x c.args.y (held c.args.x c.well_formed.0.1) (held c.args.y c.well_formed.1.0.1) (below-infinity c.args.x c.if-p-ge-INFINITY.false)
-    c.if-q-eq0.false c.if-p-q.false
+    c.if-y.false c.if-p-q.false
 
 pub rem_of_unpacked-r-requires : goal.rem_of_unpacked-r-requires
 rem_of_unpacked-r-requires c = let d = divides c in rw (c.unpack-2.ensures.digits, c.unpack-2.ensures.place, c.unpack.ensures.place) (d.divisor, d.order, d.under)

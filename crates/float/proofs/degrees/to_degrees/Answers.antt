@@ -1,8 +1,7 @@
 -- `to_degrees` meets its contract.
-use mathlib.Core.Path.{refl}
 use lib.Ieee.{of_int, of_bits}
 use Rattle.float.proofs.degrees.to_degrees.Goals as goal
 
 pub returns : goal.returns
 unfolding of_int of_bits
-returns c = refl
+returns c = c.to_degrees.ensures
