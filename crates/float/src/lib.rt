@@ -1,5 +1,4 @@
-// The float ground: everything above reaches floats through these functions and the language's own operators.
-// Sines, arcs and degrees stand here, the rest in crates of its own.
+// The float ground, beside the language's own operators and what its library has: sines, arcs and degrees stand here, the rest in crates of its own.
 #![tactic(auto)]
 
 pub mod degrees;

@@ -18,7 +18,7 @@ pub struct SinCos {
     pub cos: f64,
 }
 
-// What is left of an angle's magnitude: j quarter turns and y radians. The offset multiplies by j, so it is a number and no enum.
+// What is left of an angle's magnitude: j quarter turns and y radians. As an enum j would be cast to a number for the offset and in each contract.
 #[derive(Clone, Copy)]
 struct Reduction {
     j: u8,

@@ -1,6 +1,7 @@
 -- Values that binary64 holds: each is its own rounding, a zero has one exponent, and one that compares equal to a value that is not zero
 -- is that very value. Assumes nothing.
-use Rattle.std.proofs.Common.{◌≡◌, ℕ, zero, suc, ◌*◌, ◌^◌, ◌<◌, Bool, true, false, ◌&&◌, T, eqb, ℤ, pos, negsuc, sym, refl, ◌∙◌, zero-lt-suc, mul-pos, one-mul, mul-one, arith, eqb→eq, pow_pos, eqb-true}
+use Rattle.std.proofs.Common.{◌≡◌, ℕ, zero, suc, ◌*◌, ◌^◌, ◌<◌, Bool, true, false, ◌&&◌, T, eqb, ℤ, pos, negsuc, sym, refl, ◌∙◌, zero-lt-suc, mul-pos, one-mul}
+use Rattle.std.proofs.Common.{mul-one, arith, eqb→eq, pow_pos, eqb-true}
 use mathlib.Core.Bool.{false≢true}
 use lib.Pow.{pow-lt}
 use lib.Ieee.{Float, nan, inf, fin, binary64, up, down, round, eq, level, fits, to_bits}

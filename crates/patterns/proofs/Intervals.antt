@@ -1,6 +1,7 @@
 -- Interval arithmetic in units of 2 ^ -1074: what an operation of binary64 makes of values that are known within bounds. A bound q * 2 ^ j with fewer than 54
 -- digits is a value of the format, so no rounding passes it. Assumes nothing.
-use Rattle.std.proofs.Common.{◌≡◌, ℕ, ◌+◌, ◌-◌, ◌*◌, ◌^◌, ◌<◌, ◌≤◌, Bool, true, false, not, T, ltb, sym, refl, zero-le, le_trans, le_of_eq, le_refl, lt_of_lt_of_le, lt_of_le_of_lt, mul-le-mul_right, mul-le-mul, mul-le-mul_left, mul-one, arith, pow_pos, ltb-false, ltb-true}
+use Rattle.std.proofs.Common.{◌≡◌, ℕ, ◌+◌, ◌-◌, ◌*◌, ◌^◌, ◌<◌, ◌≤◌, Bool, true, false, not, T, ltb, sym, refl, zero-le, le_trans, le_of_eq, le_refl}
+use Rattle.std.proofs.Common.{lt_of_lt_of_le, lt_of_le_of_lt, mul-le-mul_right, mul-le-mul, mul-le-mul_left, mul-one, arith, pow_pos, ltb-false, ltb-true}
 use lib.Ieee.{Float, binary64, unlike, fits, neg, sub}
 use lib.Ieee.Scale.{finite}
 use Rattle.patterns.specs.Bits.{sign_bit}

@@ -1,5 +1,6 @@
 -- The leading digit of a significand: how far it may be shifted up, and the pattern that it then makes. Assumes nothing.
-use Rattle.std.proofs.Common.{◌≡◌, ℕ, suc, ◌+◌, ◌-◌, ◌*◌, ◌%◌, ◌^◌, ◌<◌, ◌≤◌, Bool, false, T, sym, ap, ◌∙◌, subst, le_trans, le_of_eq, lt_of_lt_of_le, le_of_lt, mul-le-mul_right, mul_assoc, lt_of_not-le, not-le_of_lt, arith, lit≤, pow_mono, pow-add, shl_lt, shl_exact}
+use Rattle.std.proofs.Common.{◌≡◌, ℕ, suc, ◌+◌, ◌-◌, ◌*◌, ◌%◌, ◌^◌, ◌<◌, ◌≤◌, Bool, false, T, sym, ap, ◌∙◌, subst, le_trans, le_of_eq, lt_of_lt_of_le, le_of_lt}
+use Rattle.std.proofs.Common.{mul-le-mul_right, mul_assoc, lt_of_not-le, not-le_of_lt, arith, lit≤, pow_mono, pow-add, shl_lt, shl_exact}
 use lib.Count.{count_leading_zeros, leading_top}
 use lib.Ieee.{binary64, odd, of_bits, fits}
 use lib.Ieee.Exact.{HasValue, odd_sign}

@@ -1,6 +1,9 @@
 -- Product, sum, difference and quotient of binary64 in units of 2 ^ -1074: each is `rounded` of the exact fraction, subnormal operands and results included.
 -- Assumes nothing.
-use Rattle.std.proofs.Common.{◌≡◌, ℕ, zero, suc, ◌+◌, ◌-◌, ◌*◌, ◌^◌, ◌<◌, ◌≤◌, Bool, true, false, T, ℤ, sym, refl, ap, ◌∙◌, subst, le_trans, le_of_eq, lt_of_lt_of_le, lt_of_le_of_lt, lt_irrefl, mul-le-mul_right, zero-lt-suc, mul_assoc, mul_comm, add-mul, lt_of_mul-lt-mul_right, mul-lt-mul_of_pos_right, mul-pos, zero-mul, mul-one, mul_right_comm, le_of_mul-le-mul_right, lit≤, pow_pos, shl_lt, le-ltb, lt-ltb}
+use Rattle.std.proofs.Common.{◌≡◌, ℕ, zero, suc, ◌+◌, ◌-◌, ◌*◌, ◌^◌, ◌<◌, ◌≤◌, Bool, true, false, T, ℤ, sym, refl, ap, ◌∙◌, subst, le_trans, le_of_eq}
+use Rattle.std.proofs.Common.{lt_of_lt_of_le, lt_of_le_of_lt, lt_irrefl, mul-le-mul_right, zero-lt-suc, mul_assoc, mul_comm, add-mul, lt_of_mul-lt-mul_right}
+use Rattle.std.proofs.Common.{mul-lt-mul_of_pos_right, mul-pos, zero-mul, mul-one, mul_right_comm, le_of_mul-le-mul_right, lit≤, pow_pos, shl_lt, le-ltb}
+use Rattle.std.proofs.Common.{lt-ltb}
 use native.Mathlib.Nat.{mul-mul-mul_comm}
 use native.Mathlib.Nat.{mul-sub}
 use lib.Dec.{eqb-suc-zero}

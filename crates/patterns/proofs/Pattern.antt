@@ -1,5 +1,6 @@
 -- What a pattern of 64 bits stands for: a NaN, or the value of its sign, field and digits. Assumes nothing.
-use Rattle.std.proofs.Common.{◌≡◌, ℕ, zero, suc, ◌+◌, ◌*◌, ◌/◌, ◌%◌, ◌^◌, ◌<◌, ◌≤◌, Bool, true, false, cond, not, T, eqb, ltb, leb, sym, refl, ap, ◌∙◌, subst, inl, inr, true≢false, mod-eq_of_lt, eq-zero-or-pos, not-le_of_lt, arith, eqb→eq, lt→ltb, leb→le}
+use Rattle.std.proofs.Common.{◌≡◌, ℕ, zero, suc, ◌+◌, ◌*◌, ◌/◌, ◌%◌, ◌^◌, ◌<◌, ◌≤◌, Bool, true, false, cond, not, T, eqb, ltb, leb, sym, refl, ap, ◌∙◌, subst}
+use Rattle.std.proofs.Common.{inl, inr, true≢false, mod-eq_of_lt, eq-zero-or-pos, not-le_of_lt, arith, eqb→eq, lt→ltb, leb→le}
 use lib.Dec.{not_T}
 use lib.Arith.{le→nltb}
 use lib.Ieee.{Float, nan, inf, fin, binary64, odd, of_fields, of_bits, is_nan, nan_bits, ne}

@@ -1,5 +1,6 @@
 -- A float that binary64 holds is a whole number of units of 2 ^ -1074, there is one such number, and the order of such floats is that of the numbers. Assumes nothing.
-use Rattle.std.proofs.Common.{◌≡◌, ℕ, ◌*◌, ◌/◌, ◌^◌, ◌<◌, ◌≤◌, Bool, true, false, not, T, ℤ, sym, refl, ap, ◌∙◌, subst, mul-le-mul_right, lt_of_not-le, not-le_of_lt, le_of_mul-le-mul_right, mul-div_cancel, pow_pos, ltb-false, ltb-true}
+use Rattle.std.proofs.Common.{◌≡◌, ℕ, ◌*◌, ◌/◌, ◌^◌, ◌<◌, ◌≤◌, Bool, true, false, not, T, ℤ, sym, refl, ap, ◌∙◌, subst, mul-le-mul_right, lt_of_not-le}
+use Rattle.std.proofs.Common.{not-le_of_lt, le_of_mul-le-mul_right, mul-div_cancel, pow_pos, ltb-false, ltb-true}
 use lib.Ieee.{Float, nan, inf, fin, binary64, up, down, fits, neg, lt, le}
 use lib.Ieee.Fits.{down_pos}
 use lib.Ieee.Order.{transfer, le_of_values}

@@ -1,5 +1,6 @@
 -- A finite value is told by its sign and its number of units of 2 ^ -1074, which its parts give. Assumes nothing.
-use Rattle.std.proofs.Common.{◌≡◌, ℕ, zero, suc, ◌+◌, ◌-◌, ◌*◌, ◌/◌, ◌%◌, ◌^◌, ◌<◌, Bool, true, false, cond, T, eqb, sym, refl, ap, ◌∙◌, subst, mod-lt, mul-div_cancel, arith, pow_pos}
+use Rattle.std.proofs.Common.{◌≡◌, ℕ, zero, suc, ◌+◌, ◌-◌, ◌*◌, ◌/◌, ◌%◌, ◌^◌, ◌<◌, Bool, true, false, cond, T, eqb, sym, refl, ap, ◌∙◌, subst, mod-lt}
+use Rattle.std.proofs.Common.{mul-div_cancel, arith, pow_pos}
 use lib.Dec.{eqb-suc-zero}
 use lib.Ieee.{Float, nan, inf, fin, binary64, odd, of_fields, of_bits, to_bits, fits, size, up, down}
 use lib.Ieee.Bits.{of_bits-to_bits}

@@ -1,5 +1,7 @@
 -- Remainders of products, the running remainder of a shifted number, long division, and Barrett's estimate of a quotient. Assumes nothing.
-use Rattle.std.proofs.Common.{◌≡◌, ℕ, suc, ◌+◌, ◌-◌, ◌*◌, ◌/◌, ◌%◌, ◌^◌, ◌<◌, ◌≤◌, sym, ap, ◌∙◌, ap₂, mul-le-mul_right, mod-lt, mod-eq_of_lt, mul_assoc, mul_comm, add-mul, add_comm, lt_of_mul-lt-mul_right, mul-le-mul_left, mul-lt-mul_of_pos_right, mul-pos, div-add-mod', mul_right_comm, div-mul-le_self, le_of_mul-le-mul_right, arith, pow_pos, pow-add, shl_exact}
+use Rattle.std.proofs.Common.{◌≡◌, ℕ, suc, ◌+◌, ◌-◌, ◌*◌, ◌/◌, ◌%◌, ◌^◌, ◌<◌, ◌≤◌, sym, ap, ◌∙◌, ap₂, mul-le-mul_right, mod-lt, mod-eq_of_lt, mul_assoc}
+use Rattle.std.proofs.Common.{mul_comm, add-mul, add_comm, lt_of_mul-lt-mul_right, mul-le-mul_left, mul-lt-mul_of_pos_right, mul-pos, div-add-mod'}
+use Rattle.std.proofs.Common.{mul_right_comm, div-mul-le_self, le_of_mul-le-mul_right, arith, pow_pos, pow-add, shl_exact}
 use native.Mathlib.Nat.{lt-div-mul-add, mul-add-div_right}
 use native.Mathlib.Nat.{mul-mod_left, add-mul-mod_self_right}
 use native.Mathlib.Nat.{mul-mul-mul_comm, mul-div-mul_right, mod-eq-sub-mod}

@@ -124,7 +124,7 @@ pub fn two_at(s: &[u8], at: usize) -> u64
     ensures value { result ≡ lows_in s.now at 2 }
     ensures unchanged { s.exit.now ≡ s.entry.now }
 {
-    let Some([high, rest, ..]) = s.get(at..) else {
+    let [high, rest, ..] = tail(s, at) else {
         return 0;
     };
     low(*high) * 16 + low(*rest)
@@ -135,7 +135,7 @@ pub fn sixteen_at(s: &[u8], at: usize) -> u64
     ensures value { result ≡ lows_in s.now at 16 }
     ensures unchanged { s.exit.now ≡ s.entry.now }
 {
-    // Not one with `two_at`, over a const width and a reader of each half: the checker does not cover a bound `Fn` that names a const parameter.
+    // Not one with `two_at`: a shared function would take the parts, their reader and a part's weight, which is all that these lines say.
     let [high, rest, ..] = tail(s, at).as_chunks::<8>().0 else {
         return 0;
     };

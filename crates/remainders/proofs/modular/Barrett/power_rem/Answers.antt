@@ -1,5 +1,6 @@
 -- `power_rem` meets its contract.
-use Rattle.std.proofs.Common.{◌≡◌, ℕ, suc, ◌+◌, ◌-◌, ◌*◌, ◌/◌, ◌%◌, ◌^◌, ◌<◌, ◌≤◌, sym, ap, ◌∙◌, subst, lt_of_lt_of_le, le_of_suc-le-suc, le_of_lt, mod-lt, mod-eq_of_lt, one-mul, lt_of_not-le, not-le_of_lt, arith, pow_mono, shl_lt, shl_exact, shr-shr, shr_lt}
+use Rattle.std.proofs.Common.{◌≡◌, ℕ, suc, ◌+◌, ◌-◌, ◌*◌, ◌/◌, ◌%◌, ◌^◌, ◌<◌, ◌≤◌, sym, ap, ◌∙◌, subst, lt_of_lt_of_le, le_of_suc-le-suc, le_of_lt, mod-lt}
+use Rattle.std.proofs.Common.{mod-eq_of_lt, one-mul, lt_of_not-le, not-le_of_lt, arith, pow_mono, shl_lt, shl_exact, shr-shr, shr_lt}
 use Rattle.remainders.proofs.Modulo.{squared}
 use Rattle.patterns.proofs.Leading.{zeros, top}
 use Rattle.remainders.proofs.modular.Barrett.power_rem.Goals as goal

@@ -1,5 +1,6 @@
 -- `leap_rem` meets its contract: a rest that the low words tell is the whole of it, where the high words differ by little.
-use Rattle.std.proofs.Common.{◌≡◌, ℕ, ◌+◌, ◌-◌, ◌*◌, ◌/◌, ◌%◌, ◌^◌, ◌<◌, ◌≤◌, sym, ap, ◌∙◌, lt_of_lt_of_le, lt_of_le_of_lt, le_of_lt, mod-lt, mul-le-mul_left, div-le_self, arith, pow_pos, pow_mono, shl_lt}
+use Rattle.std.proofs.Common.{◌≡◌, ℕ, ◌+◌, ◌-◌, ◌*◌, ◌/◌, ◌%◌, ◌^◌, ◌<◌, ◌≤◌, sym, ap, ◌∙◌, lt_of_lt_of_le, lt_of_le_of_lt, le_of_lt, mod-lt, mul-le-mul_left}
+use Rattle.std.proofs.Common.{div-le_self, arith, pow_pos, pow_mono, shl_lt}
 use native.Mathlib.Nat.{mul-add-mod_self_right}
 use lib.Ieee.{Float, binary64, to_bits}
 use Rattle.remainders.proofs.Modulo.{mod-mul, split-shift, leads, taken-off}
