@@ -86,7 +86,7 @@ impl Angle {
     pub fn normalised_to(self, max: Angle) -> Self
         ensures { result ≡ spec.normalised_to self max }
     {
-        if (self.radians >= 0.0) & (self.radians < max.radians) {
+        if (0.0..max.radians).contains(&self.radians) {
             self
         } else {
             let res = rem(self.radians, max.radians);

@@ -36,6 +36,7 @@ impl LatLong {
     }
 
     // The latitude and longitude of an n-vector: also the source's `LatLong::from`.
+    // No `From`, here and below: document 01 lets only named conversions open an n-vector.
     pub fn from_nvector(nvector: NVector) -> Self
         ensures { result ≡ spec.from_nvector nvector }
     {
@@ -80,7 +81,7 @@ impl NVector {
     pub fn from_lat_long(latitude: Angle, longitude: Angle) -> Self
         ensures { result ≡ spec.from_lat_long latitude longitude }
     {
-        NVector(latlong_to_nvector(latitude, longitude))
+        NVector(latlong_to_nvector(LatLong::new(latitude, longitude)))
     }
 
     // The position at a latitude and a longitude in degrees.
@@ -131,17 +132,17 @@ fn nvector_to_latlong(nvector: Vec3) -> LatLong
 }
 
 // The unit vector at a latitude and a longitude; at exactly a quarter circle, a pole whatever the longitude.
-fn latlong_to_nvector(latitude: Angle, longitude: Angle) -> Vec3
-    ensures { result ≡ spec.latlong_to_nvector latitude longitude }
+fn latlong_to_nvector(position: LatLong) -> Vec3
+    ensures { result ≡ spec.latlong_to_nvector position.latitude position.longitude }
 {
-    if latitude == Angle::QUARTER_CIRCLE {
+    if position.latitude == Angle::QUARTER_CIRCLE {
         return Vec3::UNIT_Z;
     }
-    if latitude == Angle::NEG_QUARTER_CIRCLE {
+    if position.latitude == Angle::NEG_QUARTER_CIRCLE {
         return Vec3::NEG_UNIT_Z;
     }
-    let lat = sin_cos(latitude.radians);
-    let lon = sin_cos(longitude.radians);
+    let lat = sin_cos(position.latitude.radians);
+    let lon = sin_cos(position.longitude.radians);
     let cl = lat.cos;
     let x = cl * lon.cos;
     let y = cl * lon.sin;

@@ -1,14 +1,13 @@
 -- Positions by an index. Assumes nothing.
-use Prim.Native.Nat.{ℕ, zero, suc, ◌+◌, ◌*◌, ◌/◌, ◌<◌}
+use Prim.Native.Nat.{ℕ, zero, suc, ◌+◌, ◌/◌, ◌<◌}
 use native.Mathlib.Omega.{arith}
 use mathlib.Core.Path.{◌≡◌, refl, ap, ◌∙◌}
-use mathlib.Core.List.{List, [], ◌∷◌}
+use mathlib.Core.List.{List, [], ◌∷◌, map}
 use lib.ListN.{length, get_or}
-use lib.Ieee.{Float, nan}
-use Rattle.vectors.specs.Vec3.{new}
-use Rattle.jord.specs.Positions.{nvector_new}
-use Rattle.means.specs.Mean.{positions, nowhere}
-use Rattle.means.specs.Laid.{from}
+use lib.Ieee.{Float}
+use Rattle.std.specs.Simd.{first_chunks}
+use Rattle.means.specs.Mean.{positions}
+use Rattle.means.specs.Laid.{from, of_three}
 
 module _ {A : Type 0} (g : ℕ → A) where
   pub length_from : (i k : ℕ) → length (from g i k) ≡ k
@@ -26,20 +25,11 @@ module _ {A : Type 0} (g : ℕ → A) where
   pub at_start : (k : ℕ) (d : A) (j : ℕ) → j < length (from g 0 k) → get_or (from g 0 k) j d ≡ g j
   at_start k d j h = at_from 0 k d j (below-from k j h) ∙ ap g (let e : 0 + j ≡ j = omega arith in e)
 
-pub length_positions : (cs : List Float) → length (positions cs) ≡ length cs / 3
-length_positions [] = refl
-length_positions (x ∷ []) = refl
-length_positions (x ∷ y ∷ []) = refl
-length_positions (x ∷ y ∷ z ∷ cs) = omega (arith, length_positions cs)
-
--- the i-th position that coordinates stand for
-pub at_positions : (cs : List Float) (i : ℕ) → i < length cs / 3 → get_or (positions cs) i nowhere ≡ nvector_new (new (get_or cs (3 * i) nan) (get_or cs (3 * i + 1) nan) (get_or cs (3 * i + 2) nan))
-at_positions [] i h = absurd (omega arith)
-at_positions (x ∷ []) i h = absurd (omega arith)
-at_positions (x ∷ y ∷ []) i h = absurd (omega arith)
-at_positions (x ∷ y ∷ z ∷ cs) zero h = refl
-at_positions (x ∷ y ∷ z ∷ cs) (suc i) h =
-    let three : 3 * suc i ≡ suc (suc (suc (3 * i))) = omega arith in
-    let second : suc (suc (suc (3 * i))) + 1 ≡ suc (suc (suc (3 * i + 1))) = omega arith in
-    let third : suc (suc (suc (3 * i))) + 2 ≡ suc (suc (suc (3 * i + 2))) = omega arith in
-    rw (three, second, third) (at_positions cs i (omega arith))
+-- coordinates taken three by three
+pub positions-by_three : (cs : List Float) → map of_three (first_chunks 3 (length cs / 3) cs) ≡ positions cs
+positions-by_three [] = refl
+positions-by_three (x ∷ []) = refl
+positions-by_three (x ∷ y ∷ []) = refl
+positions-by_three (x ∷ y ∷ z ∷ cs) =
+    let n : suc (suc (suc (length cs))) / 3 ≡ suc (length cs / 3) = omega arith in
+    rw (n, positions-by_three cs)

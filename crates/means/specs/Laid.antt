@@ -1,10 +1,14 @@
--- Positions whose parts lie in columns, and the mean of those. Definitions only.
+-- Positions by three coordinates, positions whose parts lie in columns, and the mean of those. Definitions only.
 use Rattle.std.specs.Prelude.{ℕ, zero, suc, ◌+◌, ◌*◌, ◌/◌, min, List, [], ◌∷◌, get_or, length, Float}
 use Rattle.std.specs.Float.{nan}
 use Rattle.vectors.specs.Vec3 as vec3
 use Rattle.jord.specs.Positions.{nvector_new}
 use Rattle.jord.specs.declared.positions.NVector.{NVector}
 use Rattle.means.specs.Mean.{Mean, mean_of}
+
+-- the position of three coordinates, through `Vec3::new`
+abbrev pub of_three : List Float → NVector
+of_three cs = nvector_new (vec3.new (get_or cs 0 nan) (get_or cs 1 nan) (get_or cs 2 nan))
 
 -- g i, g (i + 1) and so on, k of them
 abbrev pub from : {A : Type 0} → (ℕ → A) → ℕ → ℕ → List A

@@ -1,4 +1,4 @@
-// Means of positions. A list is handed over as coordinates, three to a position; one or two left over at the end count for nothing.
+// Means of positions: of coordinates in turn or in columns, of lent positions, of three.
 #![tactic(auto)]
 
 ghost use Rattle.std.specs.Prelude.{◌≡◌, Err};
@@ -31,11 +31,12 @@ impl NoMean {
 }
 
 // The mean of positions, the unit vector along their sum; one is its own mean. Empty (16) of none, Antipodal (17) where one is the negation of another or of itself.
+// Their coordinates are handed over, three to a position; one or two left over at the end count for nothing.
 pub fn mean_position(cs: &[f64]) -> Result<NVector, NoMean>
     ensures mean { result ≡ spec.mean_position cs.now }
     ensures unchanged { cs.exit.now ≡ cs.entry.now }
 {
-    run::mean(InTurn(cs))
+    run::mean(InTurn(cs.as_chunks::<3>().0))
 }
 
 // The mean of three positions, the unit vector along their sum; Antipodal (17) where two are antipodes.

@@ -11,6 +11,7 @@ use jord::positions::NVector;
 use vectors::vec3::Vec3;
 
 // Positions that are read one by one.
+// No `Iterator`: each position's opposite is sought among all of them, so they are read again for each.
 pub(crate) trait Run: Copy {
     ghost listed: { Self → List NVector };
 

@@ -4,7 +4,7 @@ ghost use Rattle.vectors.specs.Mat33 as spec;
 
 use crate::vec3::Vec3;
 
-// A 3 by 3 matrix: the source names its rows one by one, so they are no array.
+// A 3 by 3 matrix. Three named rows: in an array they would be rows[0], rows[1], rows[2], for `row0` to `row2` and `transpose` take each by its place.
 #[derive(Clone, Copy)]
 pub struct Mat33 {
     pub r0: Vec3,

@@ -17,7 +17,13 @@ returns-then-abs_dist-max_distance c = rw (by_size _ _ _ _ c.abs-abs_dist.ensure
 
 pub returns-then-abs_dist-max_distance-2 : goal.returns-then-abs_dist-max_distance-2
 returns-then-abs_dist-max_distance-2 c =
-    rw (by_size _ _ _ _ c.abs-abs_dist.ensures c.mul-max_distance.ensures, c.if-abs_dist-max_distance.false, c.if-abs_dist-max_distance-2.true, ← c.rem-d.ensures) c.from_radians.ensures
+    rw (
+      by_size _ _ _ _ c.abs-abs_dist.ensures c.mul-max_distance.ensures,
+      c.if-abs_dist-max_distance.false,
+      c.if-abs_dist-max_distance-2.true,
+      ← c.rem-d.ensures,
+    )
+    c.from_radians.ensures
 
 pub returns : goal.returns
 returns c =
