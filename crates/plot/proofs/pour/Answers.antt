@@ -1,5 +1,6 @@
 -- What is used makes up the piece.
-use Rattle.std.proofs.Common.{◌-◌, ◌<◌, ◌≤◌, List, [], ◌∷◌, ◌++◌, Bool, true, false, ◌==◌, Option, ℕ, length, take, drop, refl, sym, ap, subst, ◌≡◌, ◌∙◌, OnOk, arith, take_all, length-drop, append_assoc, append-nil}
+use Rattle.std.proofs.Common.{◌-◌, ◌<◌, ◌≤◌, List, [], ◌∷◌, ◌++◌, Bool, true, false, ◌==◌, Option, ℕ, length, take, drop, refl, sym, ap, subst, ◌≡◌, ◌∙◌, OnOk, arith}
+use Rattle.std.proofs.Common.{take_all, length-drop, append_assoc, append-nil}
 use borrow.Author.Tests.{eqb-true}
 use Rattle.std.specs.declared.io.Error.{Error}
 use Rattle.console.specs.declared.Failure.{Failure}
@@ -54,7 +55,9 @@ loop-rest-preserved g c =
     let all : after ≡ drop u xs = rest xs u in
     let wrote : Appends (g.W.Write.contents l.out) (g.W.Write.contents c.write_all.new.self) page =
     subst (λ t. OnOk t (Appends (g.W.Write.contents l.out) (g.W.Write.contents c.write_all.new.self) page)) c.in_ok-map_err.was
-    (named {T = Unit {0}} {E = Error} {F = Failure} (Appends (g.W.Write.contents l.out) (g.W.Write.contents c.write_all.new.self) page) _ c.write_all.result c.map_err.result c.map_err.ensures.cases c.write_all.ensures.bytes) in
+    (named {T = Unit {0}} {E = Error} {F = Failure} (Appends (g.W.Write.contents l.out) (g.W.Write.contents c.write_all.new.self) page)
+    _ c.write_all.result c.map_err.result c.map_err.ensures.cases
+    c.write_all.ensures.bytes) in
     let t = l.invariant.text in
     record {
       state = ap (fed_state n) all ∙ rest-state m n xs u f.stream_is ∙ l.invariant.state;

@@ -63,7 +63,10 @@ returns-in-Track c =
     let s = c.args.s.now in
     let h2 : 2 ≤ length s = long s 2 c.if-s-digits.false c.digits.ensures c.in-Track.is (omega arith) in
     let h50 : 50 ≤ length s = long s 50 c.if-s-digits.false c.digits.ensures c.in-Track.is (omega arith) in
-    told _ _ c.digits.ensures c.if-s-digits.false c.in-Track.is (rw (c.coordinates.ensures ∙ coordinates-on s 2 h2 0 2 refl, c.coordinates-in-Track.ensures ∙ coordinates-on s 50 h50 0 50 refl) refl)
+    told _ _ c.digits.ensures c.if-s-digits.false c.in-Track.is (rw (
+      c.coordinates.ensures ∙ coordinates-on s 2 h2 0 2 refl,
+      c.coordinates-in-Track.ensures ∙ coordinates-on s 50 h50 0 50 refl,
+    ) refl)
 
 pub returns-in-Solve : goal.returns-in-Solve
 unfolding said
