@@ -68,7 +68,8 @@ pub asked : (s : Session) (g : Option Frame) {f : Option Frame} {y : Reply Kind 
 asked s g e h k = record { reply_is = h ∙ ap (reply_of (plain_of s)) (sym e); session_is = k ∙ ap (next (plain_of s)) (sym e) }
 
 -- the reply to what is asked of a board, or number 1 where there is none
-pub asked-of : (s : Session) (f : Plain → Reply Kind Reason) {y : Reply Kind Reason} → MatchOption s.board (y ≡ reply.NotAFrame) (λ b. y ≡ f (plain b)) → y ≡ if_started (plain_of s) f
+pub asked-of : (s : Session) (f : Plain → Reply Kind Reason) {y : Reply Kind Reason}
+    → MatchOption s.board (y ≡ reply.NotAFrame) (λ b. y ≡ f (plain b)) → y ≡ if_started (plain_of s) f
 unfolding plain_of if_started
 asked-of s f {y} m = go s.board m
   where
