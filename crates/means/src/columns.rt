@@ -1,4 +1,4 @@
-// The mean of positions laid in one slice of numbers, three to each: one after another, or in three columns.
+// Positions of three numbers each, one after another or in three columns of one slice, and the mean of those in columns.
 ghost use Rattle.std.specs.Prelude.{◌≡◌, ◌*◌, ◌<◌, ◌≤◌, length, map};
 ghost use Rattle.means.specs.Laid as spec;
 
