@@ -1,5 +1,5 @@
 -- The lines of a piece of the input: where one ends, and what is kept of it. Definitions only.
-use Rattle.std.specs.Prelude.{ℕ, ◌+◌, ◌≤◌, ◌<◌, Bool, false, List, ◌++◌, ◌≢◌, ◌≡◌, min, length, take, get_or}
+use Rattle.std.specs.Prelude.{ℕ, ◌+◌, ◌≤◌, ◌<◌, List, ◌++◌, ◌≢◌, ◌≡◌, min, length, take, get_or}
 use Rattle.unhex.specs.Digits.{all_digits}
 use Rattle.frames.specs.declared.line.LineSpan.{LineSpan}
 use Rattle.wire.specs.Kind.{most_frame_digits}
@@ -16,10 +16,6 @@ least n = min n kept
 -- none of the first n bytes is a newline
 abbrev pub NoNewline : List ℕ → ℕ → Type 0
 NoNewline s n = (k : ℕ) → k < n → get_or s k 0 ≢ newline
-
--- told of the first n bytes: where no newline is met there is none
-abbrev pub Holds : List ℕ → ℕ → Bool → Type 0
-Holds s n r = r ≡ false → NoNewline s n
 
 -- a place with no newline before it
 pub record Passes (s : List ℕ) (n : ℕ) : Type 0 where

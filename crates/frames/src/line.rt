@@ -13,9 +13,6 @@ pub const KEPT: usize = MOST_FRAME_DIGITS + 1;
 // The byte that ends a line.
 pub const NEWLINE: u8 = 10;
 
-// How many bytes are looked at together for a newline.
-const BLOCK: usize = 16;
-
 // The end of a line, and whether its bytes are digits alone.
 #[derive(Clone, Copy)]
 pub struct LineSpan {
@@ -23,39 +20,11 @@ pub struct LineSpan {
     pub digits: bool,
 }
 
-// Is there a newline among a block?
-fn holds(block: &[u8]) -> bool
-    ensures { spec.Holds block.now (length block.now) result }
-{
-    // No early return: the compiler then tests a whole block at once.
-    let mut met = false;
-    for b in block {
-        met |= *b == NEWLINE;
-    }
-    met
-}
-
-// The place past the first blocks of s, those that hold no newline.
-fn skip(s: &[u8]) -> usize
-    ensures { spec.Passes s.now result }
-{
-    let blocks = s.chunks_exact(BLOCK).position(holds);
-    blocks.unwrap_or(s.len() / BLOCK) * BLOCK
-}
-
-// The place of the first newline.
-fn newline_in(part: &[u8]) -> Option<usize>
-    ensures { result ≡ position (λ b. b == newline) part.now }
-{
-    part.iter().position(|b| *b == NEWLINE)
-}
-
 // The place of the first newline of s, or its end.
 pub(crate) fn end_of_line(s: &[u8]) -> usize
     ensures { spec.EndsAt s.now result }
 {
-    let i = skip(s);
-    i + newline_in(&s[i..]).unwrap_or(s.len() - i)
+    memchr::memchr(NEWLINE, s).unwrap_or(s.len())
 }
 
 // The length that the first line of s has if it is a frame, by the second digit of its kind. What it says is tested.
