@@ -25,6 +25,8 @@ use Rattle.plain.specs.Questions.{ask, identity_asked}
 use Rattle.plain.specs.Board.{Plain, answer, after, accepted, targets_after, put, swept, leaves, lined, with_line, own_after, track_after, raised}
 use Rattle.plain.specs.Code.{plain, cut}
 use Rattle.plain.specs.History.{accepts}
+use Rattle.board.specs.declared.glance.Setting.{Setting}
+use Rattle.board.specs.Glance.{setting_of}
 use Rattle.board.specs.Change.{name_of, Seeks, answer_by, entries_after, count_after, changed, Within, placing, RightChange}
 use Rattle.targets.proofs.Arrays.{absent, held_below}
 use Rattle.targets.proofs.Spots.{stands_at, belongs-at}
@@ -137,6 +139,13 @@ parts-answer p (Solve i) = refl
 pub answered-is : (b : Board) (c : Call) (a : Answer) (x : Option Held) (n : ℕ) → a ≡ answer_by b.radius b.own b.track x n c
     → x ≡ find (name_of c) (listed b.targets) → n ≡ length (listed b.targets) → a ≡ answer (plain b) c
 answered-is b c a x n k e f = k ∙ rw (e, f) (unfold plain in parts-answer (plain b) c)
+
+-- put to the parts of a setting, where it is the board's
+pub answered-of : (b : Board) (c : Call) (q : Setting) (a : Answer) (x : Option Held) (n : ℕ) → q ≡ setting_of b
+    → a ≡ answer_by q.radius q.own q.track x (at_most q.count) c → n ≡ at_most b.targets.count
+    → x ≡ find (name_of c) (listed b.targets) → n ≡ length (listed b.targets) → a ≡ answer (plain b) c
+unfolding setting_of
+answered-of b c q a x n s k m e f = answered-is b c a x (at_most b.targets.count) (rw s at k) e (sym m ∙ f)
 
 -- an answer is accepted where it is no error
 pub ok-accepted : (a : Answer) → accepts a ≡ is_ok a

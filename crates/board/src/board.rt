@@ -3,13 +3,14 @@ ghost use Rattle.std.specs.Prelude.{◌≡◌, ◌≤◌};
 ghost use Rattle.plain.specs.Board as spec;
 ghost use Rattle.board.specs.Change as code;
 ghost use Rattle.plain.specs.Code.{plain, Answers, Demanded};
-ghost use Rattle.plain.specs.Targets.{most_targets};
+ghost use Rattle.plain.specs.Targets.{at_most, most_targets};
 
+use crate::glance::{Setting, board_of, setting_of};
 use jord::vehicle::Vehicle;
 use plain::call::{Answer, Call, Coordinates, Fix};
 use plain::line::Ends;
 use plain::state::{Answered, Board};
-use plain::targets::{Held, Target, Targets};
+use plain::targets::{Held, Target};
 use questions::call::{ends, vehicle};
 use questions::line::{raise, solve_line};
 use questions::{ends_asked, fix_asked, held_asked, identity_asked, radius_asked, room_asked, see};
@@ -72,15 +73,14 @@ pub fn solve(board: Board, identity: u16) -> Answered
 pub fn hear(board: Board, call: Call) -> Answered
     ensures { Answers board call result }
 {
-    let own = board.own;
-    let track = board.track;
+    let setting = setting_of(board);
     let targets = board.targets;
     let mut entries = targets.entries;
     let n = least(targets.count);
     let sought = seek_in(&entries[..n], name_of(call));
     let spot = sought.spot;
     let found = sought.found;
-    let answer = answer_of(board.radius, own, track, found, n, call);
+    let answer = answer_of(setting, found, call);
     if answer.is_err() {
         return Answered { board, answer };
     }
@@ -92,38 +92,29 @@ pub fn hear(board: Board, call: Call) -> Answered
         Change::Removes(p) => entries = closed(entries, p),
         Change::Sweeps => entries = bared(entries),
     }
+    let after = Setting {
+        radius: setting.radius,
+        own: own_after(call, setting.own),
+        track: track_after(call, setting.track),
+        count: count_after(change, n),
+        total: total_after(answer, setting.total),
+    };
     Answered {
-        board: Board {
-            radius: board.radius,
-            own: own_after(call, own),
-            track: track_after(call, track),
-            targets: Targets {
-                entries,
-                count: count_after(change, n),
-            },
-            total: total_after(answer, board.total),
-        },
+        board: board_of(after, entries),
         answer,
     }
 }
 
-// The questions of a call in their order, put to the parts of a board: n targets stand, and this is held under the identity that is named.
+// The questions of a call in their order, put to a board of this setting where this is held under the identity that is named.
 // The first no refuses it.
-fn answer_of(
-    radius: f64,
-    own: Option<Vehicle>,
-    track: Option<Ends>,
-    found: Option<Held>,
-    n: usize,
-    call: Call,
-) -> Answer
-    ensures { result ≡ code.answer_by radius own track found n call }
+fn answer_of(setting: Setting, found: Option<Held>, call: Call) -> Answer
+    ensures { result ≡ code.answer_by setting.radius setting.own setting.track found (at_most setting.count) call }
 {
     match call {
         Call::Report(identity, fix) => {
             identity_asked(identity)?;
             fix_asked(fix)?;
-            room_asked(found, n)?;
+            room_asked(found, least(setting.count))?;
             Ok(None)
         }
         Call::Withdraw(identity) => {
@@ -141,8 +132,8 @@ fn answer_of(
         }
         Call::Solve(identity) => {
             identity_asked(identity)?;
-            let scene = see(found, own, track)?;
-            Ok(Some(solve_line(radius, scene)))
+            let scene = see(found, setting.own, setting.track)?;
+            Ok(Some(solve_line(setting.radius, scene)))
         }
     }
 }

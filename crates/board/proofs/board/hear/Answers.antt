@@ -10,9 +10,10 @@ use Rattle.targets.specs.declared.Change.{Change}
 use Rattle.plain.specs.Targets.{most_targets, at_most, listed}
 use Rattle.plain.specs.Code.{plain}
 use Rattle.board.specs.Change.{entries_after, Within}
+use Rattle.board.specs.Glance.{board_of, setting_of}
 use Rattle.plain.proofs.Listed.{at-most-le}
 use Rattle.plain.proofs.Played.{heard-refused}
-use Rattle.board.proofs.Changes.{sought-is, answered-is, ok-accepted, within-is, changed-is}
+use Rattle.board.proofs.Changes.{sought-is, answered-of, ok-accepted, within-is, changed-is}
 use Rattle.board.proofs.board.hear.Goals as goal
 use Rattle.board.proofs.board.hear.Goals.{in-Stays, in-Stores, in-Inserts, in-Removes, in-Sweeps}
 
@@ -21,7 +22,7 @@ unfolding plain listed
 returns-then-is_err c =
     let a = c.args in
     let s = sought-is a.board.targets _ _ _ _ c.seek_in-sought.ensures c.least-n.ensures c.name_of.ensures (search rules) in
-    let k = answered-is a.board a.call _ _ _ c.answer_of-answer.ensures s.1 s.2 in
+    let k = answered-of a.board a.call _ _ _ _ c.setting_of-setting.ensures c.answer_of-answer.ensures c.least-n.ensures s.1 s.2 in
     record {
       answer_is = k;
       board_is = heard-refused a.board a.call _ k (ok-accepted c.answer_of-answer.result ∙ c.is_err.ensures.negation ∙ ap not c.if-is_err.true);
@@ -47,14 +48,14 @@ pub bounds-entries-p : goal.bounds-entries-p
 bounds-entries-p c = place-below c
 
 pub returns : goal.returns
-unfolding entries_after
+unfolding entries_after board_of setting_of
 returns c =
     let a = c.args in
     let k = c.seek_in-sought.ensures in
     let full : length a.board.targets.entries ≡ most_targets = search rules in
     let n = c.least-n.ensures in
     let s = sought-is a.board.targets _ _ _ _ k n c.name_of.ensures full in
-    let q = answered-is a.board a.call _ _ _ c.answer_of-answer.ensures s.1 s.2 in
+    let q = answered-of a.board a.call _ _ _ _ c.setting_of-setting.ensures c.answer_of-answer.ensures c.least-n.ensures s.1 s.2 in
     let yes' = ok-accepted c.answer_of-answer.result ∙ c.is_err.ensures.negation ∙ ap not c.if-is_err.false in
     -- each arm leaves what its change makes of the entries
     let arms : (c.match-change.change ≡ c.change_of-change.result) × (c.match-change.entries ≡ entries_after c.change_of-change.result a.board.targets.entries) =
@@ -68,7 +69,7 @@ returns c =
     record {
       answer_is = q;
       board_is =
-          rw (c.total_after.ensures, c.track_after.ensures, c.own_after.ensures)
+          rw (c.board_of.ensures, c.total_after.ensures, c.track_after.ensures, c.own_after.ensures, c.setting_of-setting.ensures)
           (changed-is a.board a.call _ _ _ _ full s.0 s.1 c.change_of-change.ensures _ _ q yes' arms.1 (c.count_after.ensures ∙ rw (arms.0, n)));
       refused_keeps = λ e. absurd (false≢true (sym e ∙ yes'));
     }
