@@ -9,8 +9,8 @@ use board::glance::{Setting, board_of, setting_of};
 use plain::targets::{MOST_TARGETS, Target};
 use sessions::quick::{Quick, look};
 use sessions::session::{Session, step};
-use targets::{bared, empty};
-use wire::frame::{Frame, read, read_known};
+use targets::{bared, empty, identities};
+use wire::frame::{read, read_known};
 use wire::reply::{Reply, put};
 
 // The room that any reply fits, its newline with it.
@@ -24,11 +24,13 @@ pub struct Stream {
     pub n: usize,
 }
 
-// A session in its parts: all of its board but the entries, where it has one, and the entries of its targets.
+// A session in its parts: all of its board but the entries, where it has one, the entries of its targets, and their identities.
+// Identities and entries side by side: a form that lends the entries to a look, in a function of its own for a line, was proved and took a report from 0.1 to 1.1 µs.
 #[derive(Clone, Copy)]
 struct InParts {
     setting: Option<Setting>,
     entries: [Target; MOST_TARGETS],
+    ids: [u16; MOST_TARGETS],
 }
 
 // The stream after a piece, how many bytes of it were used, and the place past what was written.
@@ -69,9 +71,11 @@ fn parts_of(session: &Session) -> InParts
         Some(board) => {
             let targets = board.targets;
             let entries = targets.entries;
+            let ids = identities(targets);
             InParts {
                 setting: Some(setting_of(board)),
                 entries,
+                ids,
             }
         }
         None => {
@@ -80,41 +84,21 @@ fn parts_of(session: &Session) -> InParts
             InParts {
                 setting: None,
                 entries,
+                ids: [0u16; MOST_TARGETS],
             }
         }
     }
 }
 
-// The session of parts. They are lent, for the entries are long.
-fn session_of(parts: &InParts) -> Session
-    ensures { result ≡ session_of parts.now.setting parts.now.entries }
+// The session of a setting, if it has one, and entries.
+fn session_of(setting: Option<Setting>, entries: [Target; MOST_TARGETS]) -> Session
+    ensures { result ≡ session_of setting entries }
 {
-    Session {
-        board: parts.setting.map(|s| board_of(s, parts.entries)),
-    }
-}
-
-// The reply to a frame, and the parts of the session after it in place of those before: by a quick look where that tells it, else by the whole session.
-fn reply_in(parts: &mut InParts, frame: Option<Frame>) -> Reply
-    ensures { turn.Replying parts.old frame parts.new result }
-{
-    match look(parts.setting, &parts.entries[..], frame) {
-        Some(Quick::Stays(reply)) => reply,
-        Some(Quick::Puts(kind, p, target)) => {
-            parts.entries[p] = target;
-            Reply::Done(kind)
-        }
-        Some(Quick::Sweeps(kind, after)) => {
-            parts.setting = Some(after);
-            let entries = bared(parts.entries);
-            parts.entries = entries;
-            Reply::Done(kind)
-        }
-        None => {
-            let stepped = step(session_of(parts), frame);
-            *parts = parts_of(&stepped.session);
-            stepped.reply
-        }
+    match setting {
+        Some(s) => Session {
+            board: Some(board_of(s, entries)),
+        },
+        None => Session { board: None },
     }
 }
 
@@ -167,7 +151,10 @@ fn lines(s: Stream, xs: &[u8], page: &mut [u8]) -> Fed
     requires { s.n ≡ 0 }
     ensures { spec.Feeding s xs.now page.old page.new result }
 {
-    let mut parts = parts_of(&s.session);
+    let start = parts_of(&s.session);
+    let mut setting = start.setting;
+    let mut entries = start.entries;
+    let mut ids = start.ids;
     let mut at = 0;
     let mut rest = xs;
     // No `split_inclusive`: it searches each line for its newline, and `line_at` need not where a line is digits alone.
@@ -178,7 +165,26 @@ fn lines(s: Stream, xs: &[u8], page: &mut [u8]) -> Fed
             break;
         }
         let frame = read_known(&rest[..end], span.digits);
-        let reply = reply_in(&mut parts, frame);
+        let reply = match look(setting, &ids[..], frame) {
+            Some(Quick::Stays(reply)) => reply,
+            Some(Quick::Puts(kind, p, target)) => {
+                entries[p] = target;
+                Reply::Done(kind)
+            }
+            Some(Quick::Sweeps(kind, after)) => {
+                setting = Some(after);
+                entries = bared(entries);
+                Reply::Done(kind)
+            }
+            None => {
+                let stepped = step(session_of(setting, entries), frame);
+                let parts = parts_of(&stepped.session);
+                setting = parts.setting;
+                entries = parts.entries;
+                ids = parts.ids;
+                stepped.reply
+            }
+        };
         at = put_reply_line(page, at, reply);
         rest = &rest[end + 1..];
     }
@@ -186,7 +192,7 @@ fn lines(s: Stream, xs: &[u8], page: &mut [u8]) -> Fed
     let line = joined(s.line, 0, &rest[..end]);
     Fed {
         stream: Stream {
-            session: session_of(&parts),
+            session: session_of(setting, entries),
             line,
             n: kept_of(0, end),
         },
