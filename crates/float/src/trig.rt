@@ -116,8 +116,8 @@ fn reduced(x: f64) -> f64
         return x;
     }
     let a = magnitude(x);
-    // Most angles are within a turn: magnitudes are in the order of their patterns.
-    if f64::to_bits(a) < f64::to_bits(2.0 * PI) {
+    // Most angles are within a turn.
+    if a < 2.0 * PI {
         return a;
     }
     rem(a, 2.0 * PI)
@@ -150,6 +150,7 @@ fn offset(r: f64, j: u8) -> f64
 }
 
 // j and y of an angle: one reduction for sine, cosine and both.
+#[inline]
 fn reduce(x: f64) -> Reduction
     ensures { result ≡ once.reduce x }
 {

@@ -4,12 +4,14 @@ use Rattle.std.proofs.Common.{inl, inr, le_trans, le_of_eq, lt_of_lt_of_le, le_o
 use Rattle.std.proofs.Common.{mul_comm, eq-zero-or-pos, mul-le-mul_left, mul-lt-mul_of_pos_right, mul-pos, zero-mul, mul_right_comm, arith, pow_pos, pow_mono, pow-add}
 use Rattle.std.proofs.Common.{◌||◌, eqb→eq, true≢false}
 use mathlib.Core.Bool.{beq}
-use native.Mathlib.Nat.{eq_of_mul-eq-mul_right}
+use native.Mathlib.Nat.{eq_of_mul-eq-mul_right, lt_of_mul-lt-mul_right}
 use lib.Dec.{eqb-suc-zero}
-use lib.Ieee.{Float, nan, inf, fin, binary64, up, down, odd, round, rem, neg, of_bits, to_bits, fits, eq, is_nan}
+use lib.Ieee.{Float, nan, inf, fin, binary64, up, down, odd, round, rem, neg, of_bits, to_bits, fits, eq, lt, is_nan}
 use lib.Ieee.Exact.{HasValue, odd_sign, round_exact}
 use lib.Ieee.Fits.{up_pos, down_pos, and_l, rem-fits}
 use lib.Ieee.Scale.{finite}
+use Rattle.std.specs.Float.Order.{lt_at}
+use Rattle.std.proofs.lemmas.Bool.{ltb-true}
 use Rattle.patterns.specs.Bits.{magnitude, sign_bit, digits, place}
 use Rattle.patterns.proofs.Pattern.{Placed}
 use Rattle.patterns.proofs.Sign.{magnitude-of}
@@ -173,6 +175,15 @@ rem-by-infinity : (r : Bool) (m : ℕ) (e : ℤ) (s : Bool) → rem binary64 (fi
 unfolding rem
 rem-by-infinity r m e s = refl
 
+-- a finite value of fewer units than another is its own remainder by it
+rem-of-fewer : (x y : Float) → T (fits binary64 x) → T (fits binary64 y) → T (finite x) → T (finite y) → units_of x < units_of y → x ≡ rem binary64 x y
+rem-of-fewer x y f g t u o =
+    let p = parts-value x f t in
+    let q = parts-value y g u in
+    same-value x (rem binary64 x y) (sign_bit x) (units_of x) f (rem-fits binary64 x y f) p.value
+    (rem_value x y (units_of x) (units_of y) (digits_of x) (place_of x) p.value q.value (omega (arith, o)) (mod-eq_of_lt o)
+    p.placed.small p.placed.under)
+
 pub rem-of-smaller : (x y : Float) → T (fits binary64 x) → T (fits binary64 y) → T (not (is_nan y)) → T (finite x)
     → to_bits binary64 x % 2 ^ 63 < to_bits binary64 y % 2 ^ 63 → x ≡ rem binary64 x y
 rem-of-smaller x nan f g n t h = absurd (nan_is_nan n)
@@ -186,13 +197,17 @@ rem-of-smaller x (fin s n d) f g _ t h =
     let a = (taken (to_bits binary64 x) (field_lt x f t)).pattern in
     let b = (taken (to_bits binary64 y) (field_lt y g tt)).pattern in
     let l : place_of x * 2 ^ 52 + digits_of x < place_of y * 2 ^ 52 + digits_of y = rw (a, b) at h in
-    let o : units_of x < units_of y = units-order (digits_of x) (place_of x) (digits_of y) (place_of y) p.placed q.placed l in
-    same-value x (rem binary64 x y) (sign_bit x) (units_of x) f (rem-fits binary64 x y f) p.value
-    (rem_value x y (units_of x) (units_of y) (digits_of x) (place_of x) p.value q.value (positive (units_of x) (units_of y) o) (mod-eq_of_lt o)
-    p.placed.small p.placed.under)
-  where
-    positive : (m n : ℕ) → m < n → 0 < n
-    positive m n h = omega arith
+    rem-of-fewer x y f g t tt (units-order (digits_of x) (place_of x) (digits_of y) (place_of y) p.placed q.placed l)
+
+-- a value without a sign is its own remainder by a finite one above it
+pub rem-of-less : (x y : Float) → T (fits binary64 x) → T (fits binary64 y) → sign_bit x ≡ false → sign_bit y ≡ false → T (finite x) → T (finite y)
+    → lt x y ≡ true → x ≡ rem binary64 x y
+rem-of-less x y f g s r t u h =
+    let n = pow_pos 1074 in
+    let v = subst (λ (b : Bool). HasValue x b (units_of x) (2 ^ 1074)) s (parts-value x f t).value in
+    let w = subst (λ (b : Bool). HasValue y b (units_of y) (2 ^ 1074)) r (parts-value y g u).value in
+    let o = ltb-true (units_of x * 2 ^ 1074) (units_of y * 2 ^ 1074) (sym (lt_at x y (units_of x) (2 ^ 1074) (units_of y) (2 ^ 1074) n n v w) ∙ h) in
+    rem-of-fewer x y f g t u (lt_of_mul-lt-mul_right (2 ^ 1074) o)
 
 -- the remainder of two magnitudes by their parts, and a magnitude with a sign
 abbrev pub rem_parts : ℕ → ℕ → ℕ → ℕ → Float
