@@ -1,7 +1,7 @@
 -- What quarter turns make of sine and cosine, and what a NaN is reduced to. Assumes nothing.
-use Rattle.std.proofs.Common.{◌≡◌, refl, sym, ◌∙◌, subst, Bool, true, false, not, T, true≢false}
+use Rattle.std.proofs.Common.{◌≡◌, refl, true, false}
 use Prim.Native.Nat.{ℕ, zero, suc}
-use lib.Ieee.{Float, nan, inf, fin, is_nan, neg, rem}
+use lib.Ieee.{Float, nan, inf, fin, neg, rem}
 use Rattle.float.specs.Once.{turned}
 use Rattle.float.specs.Trig.{reduced, sine_at, cosine_at, sine_series, cosine_series}
 
@@ -28,15 +28,6 @@ cosine-turned (suc (suc (suc zero))) y = neg-neg (sine_series y)
 cosine-turned (suc (suc (suc (suc j)))) y = refl
 
 -- ---- a NaN
-pub nan-of : {b : Bool} (x : Float) → b ≡ is_nan x → b ≡ true → x ≡ nan
-unfolding is_nan
-nan-of nan e h = refl
-nan-of (inf s) e h = absurd (true≢false (sym h ∙ e))
-nan-of (fin s m d) e h = absurd (true≢false (sym h ∙ e))
-
-pub no-nan : {b : Bool} (x : Float) → b ≡ is_nan x → b ≡ false → T (not (is_nan x))
-no-nan x e h = subst (λ (t : Bool). T (not t)) (sym h ∙ e) tt
-
 pub reduced-nan : reduced nan ≡ nan
 unfolding reduced rem
 reduced-nan = refl

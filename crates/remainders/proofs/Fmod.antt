@@ -10,6 +10,7 @@ use lib.Ieee.{Float, nan, inf, fin, binary64, up, down, odd, round, rem, neg, of
 use lib.Ieee.Exact.{HasValue, odd_sign, round_exact}
 use lib.Ieee.Fits.{up_pos, down_pos, and_l, rem-fits}
 use lib.Ieee.Scale.{finite}
+use Rattle.std.specs.Float.{float_is_infinite}
 use Rattle.std.specs.Float.Order.{lt_at}
 use Rattle.std.proofs.lemmas.Bool.{ltb-true}
 use Rattle.patterns.specs.Bits.{magnitude, sign_bit, digits, place}
@@ -89,11 +90,17 @@ below-infinity (inf true) h = let z : ⊥ = omega arith in absurd z
 below-infinity (inf false) h = let z : ⊥ = omega arith in absurd z
 below-infinity (fin s m e) h = tt
 
-pub rem-of-infinity : (x y : Float) → T (fits binary64 x) → T (not (is_nan x)) → 2047 * 2 ^ 52 ≤ to_bits binary64 x % 2 ^ 63 → rem binary64 x y ≡ nan
-unfolding rem is_nan
-rem-of-infinity nan y f n h = refl
-rem-of-infinity (inf s) y f n h = refl
-rem-of-infinity (fin s m e) y f n h = let l = field_lt (fin s m e) f tt in let z : ⊥ = omega arith in absurd z
+pub no-infinity : (x : Float) → T (not (is_nan x)) → float_is_infinite x ≡ false → T (finite x)
+unfolding is_nan float_is_infinite
+no-infinity nan n h = n
+no-infinity (inf s) n h = absurd (true≢false h)
+no-infinity (fin s m e) n h = tt
+
+pub rem-of-infinity : (x y : Float) → float_is_infinite x ≡ true → rem binary64 x y ≡ nan
+unfolding rem float_is_infinite
+rem-of-infinity nan y h = refl
+rem-of-infinity (inf s) y h = refl
+rem-of-infinity (fin s m e) y h = absurd (true≢false (sym h))
 
 pub rem-by-zero : (x y : Float) → T (finite x) → eq y (of_bits binary64 0) ≡ true → rem binary64 x y ≡ nan
 unfolding rem eq of_bits

@@ -6,7 +6,7 @@ ghost use Rattle.std.specs.Float.Ieee as Ieee;
 ghost use Rattle.std.specs.Float.{binary64};
 
 use crate::modular::Shifted;
-use patterns::{FIELD, INFINITY, SIGN, Unpacked, sign_bit, unpack};
+use patterns::{FIELD, SIGN, Unpacked, sign_bit, unpack};
 
 mod modular;
 
@@ -50,14 +50,13 @@ pub fn rem(x: f64, y: f64) -> f64
     if y.is_nan() {
         return y;
     }
-    let p = f64::to_bits(x);
-    // By its pattern: with `is_infinite`, proved too, a sine takes 1.5 to 1.9 of the time.
-    if p % SIGN >= INFINITY {
+    if x.is_infinite() {
         return f64::NAN;
     }
     if y == 0.0 {
         return f64::NAN;
     }
+    let p = f64::to_bits(x);
     let q = f64::to_bits(y);
     if p % SIGN < q % SIGN {
         return x;

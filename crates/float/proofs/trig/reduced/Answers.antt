@@ -3,13 +3,13 @@ use mathlib.Core.Bool.{true, false, true≢false}
 use mathlib.Core.Path.{◌≡◌, refl, sym, ap, ◌∙◌, subst}
 use lib.Dec.{T}
 use Rattle.float.specs.Trig as spec
-use lib.Ieee.{Float, nan, inf, fin, binary64, rem, of_int, of_bits, is_nan, fits, lt, mul}
+use lib.Ieee.{Float, nan, inf, fin, binary64, rem, of_int, of_bits, fits, lt, mul}
 use lib.Ieee.Fits.{mul-fits}
-use lib.Ieee.Scale.{finite}
 use Rattle.patterns.specs.Operators.{◌⊗◌, whole, pi}
-use Rattle.patterns.specs.Bits.{magnitude, sign_bit}
+use Rattle.patterns.specs.Bits.{magnitude}
 use Rattle.remainders.proofs.Fmod.{rem-of-less}
-use Rattle.float.proofs.Turns.{nan-of, reduced-nan}
+use Rattle.patterns.proofs.Pattern.{told-nan}
+use Rattle.float.proofs.Turns.{reduced-nan}
 use Rattle.float.proofs.trig.reduced.Goals as goal
 
 -- a whole turn
@@ -24,7 +24,7 @@ own-remainder (fin s m e) f h = rem-of-less (fin false m e) turn f (mul-fits bin
 
 pub returns-then-is_nan : goal.returns-then-is_nan
 returns-then-is_nan c =
-    let e = nan-of c.args.x c.is_nan.ensures.value c.if-is_nan.true in e ∙ sym (ap spec.reduced e ∙ reduced-nan)
+    let e = told-nan c.args.x c.is_nan.ensures.value c.if-is_nan.true in e ∙ sym (ap spec.reduced e ∙ reduced-nan)
 
 pub returns-then-a : goal.returns-then-a
 unfolding spec.reduced of_int of_bits
