@@ -1,13 +1,12 @@
 -- What the functions under `feed` and `finish` hand to one another. Definitions only.
 use Rattle.std.specs.Prelude.{ℕ, ◌+◌, ◌-◌, ◌≤◌, Bool, true, cond, List, [], ◌∷◌, ◌++◌, ◌≢◌, ◌≡◌, ltb, length, take, drop}
 use Rattle.hex_digits.specs.Write.{Wrote}
-use Rattle.plain.specs.Targets.{most_targets}
 use Rattle.wire.specs.declared.kind.Kind.{Kind}
 use Rattle.wire.specs.declared.reply.Reason.{Reason}
 use Rattle.wire.specs.declared.reply.Reply.{Reply}
 use Rattle.wire.specs.Reply.{reply_digits}
 use Rattle.sessions.specs.declared.session.Session.{Session}
-use Rattle.sessions.specs.Quick.{session_of, Standing}
+use Rattle.sessions.specs.Quick.{session_of}
 use Rattle.frames.specs.declared.stream.InParts.{InParts}
 use Rattle.frames.specs.declared.stream.Fed.{Fed}
 use Rattle.frames.specs.declared.stream.Stream.{Stream}
@@ -25,8 +24,6 @@ PutReplyLine y page at out next = Wrote page at (length (reply_digits y ++ (newl
 -- a session in its parts, which are those of the session
 pub record PartsOf (s : Session) (r : InParts) : Type 0 where
   pub same : session_of r.setting r.entries ≡ s
-  pub stands : Standing r.setting r.ids r.entries
-  pub long : length r.ids ≡ most_targets
 
 -- the line that has begun alone: where it is not yet answered all that can be used is, and where it is the rest of the piece is left
 pub record GoingOn (s : Stream) (xs page out : List ℕ) (r : Fed) : Type 0 where

@@ -9,7 +9,7 @@ use board::glance::{Setting, board_of, setting_of};
 use plain::targets::{MOST_TARGETS, Target};
 use sessions::quick::{Quick, look};
 use sessions::session::{Session, step};
-use targets::{bared, empty, identities};
+use targets::{bared, empty};
 use wire::frame::{read, read_known};
 use wire::reply::{Reply, put};
 
@@ -24,13 +24,11 @@ pub struct Stream {
     pub n: usize,
 }
 
-// A session in its parts: all of its board but the entries, where it has one, the entries of its targets, and their identities.
-// Identities and entries side by side: a form that lends the entries to a look, in a function of its own for a line, was proved and took a report from 0.1 to 1.1 µs.
+// A session in its parts: all of its board but the entries, where it has one, and the entries of its targets.
 #[derive(Clone, Copy)]
 struct InParts {
     setting: Option<Setting>,
     entries: [Target; MOST_TARGETS],
-    ids: [u16; MOST_TARGETS],
 }
 
 // The stream after a piece, how many bytes of it were used, and the place past what was written.
@@ -71,11 +69,9 @@ fn parts_of(session: &Session) -> InParts
         Some(board) => {
             let targets = board.targets;
             let entries = targets.entries;
-            let ids = identities(targets);
             InParts {
                 setting: Some(setting_of(board)),
                 entries,
-                ids,
             }
         }
         None => {
@@ -84,7 +80,6 @@ fn parts_of(session: &Session) -> InParts
             InParts {
                 setting: None,
                 entries,
-                ids: [0u16; MOST_TARGETS],
             }
         }
     }
@@ -94,11 +89,8 @@ fn parts_of(session: &Session) -> InParts
 fn session_of(setting: Option<Setting>, entries: [Target; MOST_TARGETS]) -> Session
     ensures { result ≡ session_of setting entries }
 {
-    match setting {
-        Some(s) => Session {
-            board: Some(board_of(s, entries)),
-        },
-        None => Session { board: None },
+    Session {
+        board: setting.map(|s| board_of(s, entries)),
     }
 }
 
@@ -151,10 +143,7 @@ fn lines(s: Stream, xs: &[u8], page: &mut [u8]) -> Fed
     requires { s.n ≡ 0 }
     ensures { spec.Feeding s xs.now page.old page.new result }
 {
-    let start = parts_of(&s.session);
-    let mut setting = start.setting;
-    let mut entries = start.entries;
-    let mut ids = start.ids;
+    let mut parts = parts_of(&s.session);
     let mut at = 0;
     let mut rest = xs;
     // No `split_inclusive`: it searches each line for its newline, and `line_at` need not where a line is digits alone.
@@ -165,23 +154,20 @@ fn lines(s: Stream, xs: &[u8], page: &mut [u8]) -> Fed
             break;
         }
         let frame = read_known(&rest[..end], span.digits);
-        let reply = match look(setting, &ids[..], frame) {
+        let reply = match look(parts.setting, &parts.entries[..], frame) {
             Some(Quick::Stays(reply)) => reply,
             Some(Quick::Puts(kind, p, target)) => {
-                entries[p] = target;
+                parts.entries[p] = target;
                 Reply::Done(kind)
             }
             Some(Quick::Sweeps(kind, after)) => {
-                setting = Some(after);
-                entries = bared(entries);
+                parts.setting = Some(after);
+                parts.entries = bared(parts.entries);
                 Reply::Done(kind)
             }
             None => {
-                let stepped = step(session_of(setting, entries), frame);
-                let parts = parts_of(&stepped.session);
-                setting = parts.setting;
-                entries = parts.entries;
-                ids = parts.ids;
+                let stepped = step(session_of(parts.setting, parts.entries), frame);
+                parts = parts_of(&stepped.session);
                 stepped.reply
             }
         };
@@ -192,7 +178,7 @@ fn lines(s: Stream, xs: &[u8], page: &mut [u8]) -> Fed
     let line = joined(s.line, 0, &rest[..end]);
     Fed {
         stream: Stream {
-            session: session_of(setting, entries),
+            session: session_of(parts.setting, parts.entries),
             line,
             n: kept_of(0, end),
         },

@@ -1,22 +1,19 @@
--- Line by line: what stands on the page is the text of the lines passed. A line is answered by a quick look, or by the whole session.
+-- Line by line: what stands on the page is the text of the lines passed.
 use mathlib.Core.List.{[]}
 use Prim.Native.Nat.{◌-◌}
 use mathlib.Core.Path.{◌≡◌}
 use lib.ListN.{length, drop}
 use Rattle.sessions.specs.Session.{plain_of}
-use Rattle.sessions.specs.Quick.{session_of, Standing}
+use Rattle.sessions.specs.Quick.{session_of}
 use Rattle.frames.proofs.Turns.{Passed}
-use Rattle.plain.specs.Targets.{most_targets}
 use Rattle.frames.proofs.stream.lines.Given as goal
 
-abbrev pub invariant-loop-ids : goal.invariant-loop-ids
-invariant-loop-ids l = record {
-  stands : Standing l.setting l.ids l.entries;
+abbrev pub invariant-loop-span : goal.invariant-loop-span
+invariant-loop-span l = record {
   left : l.rest ≡ drop (length l.xs - length l.rest) l.xs;
-  passed : Passed (record { board = plain_of (session_of l.initial.setting l.initial.entries); part = [] }) l.xs l.initial.page l.page
-      (session_of l.setting l.entries) [] l.at (length l.xs - length l.rest);
-  long : length l.ids ≡ most_targets;
+  passed : Passed (record { board = plain_of (session_of l.initial.parts.setting l.initial.parts.entries); part = [] }) l.xs l.initial.page l.page
+      (session_of l.parts.setting l.parts.entries) [] l.at (length l.xs - length l.rest);
 }
 
-abbrev pub decreases-loop-ids : goal.decreases-loop-ids
-decreases-loop-ids l = length l.rest
+abbrev pub decreases-loop-span : goal.decreases-loop-span
+decreases-loop-span l = length l.rest

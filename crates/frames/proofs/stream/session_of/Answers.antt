@@ -1,11 +1,8 @@
 -- `session_of` meets its contract.
+use Rattle.std.proofs.Common.{rules}
 use Rattle.sessions.specs.Quick.{session_of}
 use Rattle.frames.proofs.stream.session_of.Goals as goal
 
-pub returns-in-Some : goal.returns-in-Some
+pub returns : goal.returns
 unfolding session_of
-returns-in-Some c = rw (c.in-Some.is, c.board_of.ensures)
-
-pub returns-in-None : goal.returns-in-None
-unfolding session_of
-returns-in-None c = rw c.in-None.is
+returns c = search rules
