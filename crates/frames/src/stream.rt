@@ -144,16 +144,15 @@ fn lines(s: Stream, xs: &[u8], page: &mut [u8]) -> Fed
     ensures { spec.Feeding s xs.now page.old page.new result }
 {
     let mut parts = parts_of(&s.session);
-    let mut at = 0;
+    let mut next = 0;
     let mut rest = xs;
     // No `split_inclusive`: it searches each line for its newline, and `line_at` need not where a line is digits alone.
     while !rest.is_empty() {
         let span = line_at(rest);
-        let end = span.end;
-        if waits(end, rest.len(), page.len() - at) {
+        if waits(span.end, rest.len(), page.len() - next) {
             break;
         }
-        let frame = read_known(&rest[..end], span.digits);
+        let frame = read_known(&rest[..span.end], span.digits);
         let reply = match look(parts.setting, &parts.entries[..], frame) {
             Some(Quick::Stays(reply)) => reply,
             Some(Quick::Puts(kind, p, target)) => {
@@ -171,20 +170,16 @@ fn lines(s: Stream, xs: &[u8], page: &mut [u8]) -> Fed
                 stepped.reply
             }
         };
-        at = put_reply_line(page, at, reply);
-        rest = &rest[end + 1..];
+        next = put_reply_line(page, next, reply);
+        rest = &rest[span.end + 1..];
     }
     let end = end_of_line(rest);
     let line = joined(s.line, 0, &rest[..end]);
-    Fed {
-        stream: Stream {
-            session: session_of(parts.setting, parts.entries),
-            line,
-            n: kept_of(0, end),
-        },
-        used: xs.len() - rest.len() + end,
-        next: at,
-    }
+    let n = kept_of(0, end);
+    let session = session_of(parts.setting, parts.entries);
+    let stream = Stream { session, line, n };
+    let used = xs.len() - rest.len() + end;
+    Fed { stream, used, next }
 }
 
 // Answers the whole lines of a piece, from the start of the page on, until the piece ends or a reply might not fit.

@@ -61,8 +61,8 @@ goes p e n b w h =
     let r = p.wrote in
     (g.0, omega (arith, g.1, r.within, r.length_is))
 
-pub put_reply_line-at-requires : goal.put_reply_line-at-requires
-put_reply_line-at-requires c = (goes c.loop-span.invariant.passed _ _ _ c.waits.ensures c.if-waits.false).1
+pub put_reply_line-next-requires : goal.put_reply_line-next-requires
+put_reply_line-next-requires c = (goes c.loop-span.invariant.passed _ _ _ c.waits.ensures c.if-waits.false).1
 
 pub overflow_add-rest : goal.overflow_add-rest
 overflow_add-rest c =
@@ -142,7 +142,7 @@ loop-span-preserved c =
     let i = length xs - length l.rest.now in
     let n = subst (λ (z : List ℕ). EndsAt z c.line_at-span.result.end) r span.ends_at in
     let here = goes l.invariant.passed _ _ _ c.waits.ensures c.if-waits.false in
-    let g : (i + c.line_at-span.result.end < length xs) × (l.at + room ≤ length l.page) = (omega (arith, here.0, left-long xs l.rest.now r), here.1) in
+    let g : (i + c.line_at-span.result.end < length xs) × (l.next + room ≤ length l.page) = (omega (arith, here.0, left-long xs l.rest.now r), here.1) in
     let e = sym (get_or-drop i xs c.line_at-span.result.end 0) ∙ n.ends (omega (arith, g.0, length-drop i xs)) in
     let f = c.read_known-frame.ensures.value ∙ known-frame _ span.digits_are ∙ ap (λ (z : List ℕ). frame_of (take c.line_at-span.result.end z)) r in
     let v = passed-bytes l.invariant.passed n.passes in
@@ -152,7 +152,7 @@ loop-span-preserved c =
       left = after.0 ∙ ap (λ (j : ℕ). drop j xs) (sym after.1);
       passed =
           passed-at (next ∙ sym after.1)
-          (passed-step v g.0 e g.1 f (answered c) refl c.put_reply_line-at.ensures);
+          (passed-step v g.0 e g.1 f (answered c) refl c.put_reply_line-next.ensures);
     }
 
 pub returns : goal.returns
@@ -167,9 +167,9 @@ returns c =
     let j = subst (λ (z : List ℕ). Joined a.s.line 0 (take e.result z) c.joined-line.result) r c.joined-line.ensures in
     let v = passed-fresh a.s c.requires (passed-from c.parts_of-parts.ensures.same (passed-bytes l.invariant.passed n.passes)) in
     let k : length (take e.result (drop i xs)) ≡ e.result = length-take-le _ _ n.passes.within in
-    let t = ap (λ (m : ℕ). take m c.joined-line.result) (c.kept_of.ensures ∙ ap (λ (m : ℕ). least (0 + m)) (sym k)) ∙ j.text in
+    let t = ap (λ (m : ℕ). take m c.joined-line.result) (c.kept_of-n.ensures ∙ ap (λ (m : ℕ). least (0 + m)) (sym k)) ∙ j.text in
     let w = l.invariant.passed.wrote in
-    let stops : i + e.result < length xs → (get_or xs (i + e.result) 0 ≡ newline) × (length a.page.now < l.at + room) =
+    let stops : i + e.result < length xs → (get_or xs (i + e.result) 0 ≡ newline) × (length a.page.now < l.next + room) =
     λ h. elim c.loop-span-test.branch [
       | else-loop-span-test z ↦
           let none = eqb-true (length l.rest.now) 0 (sym c.is_empty.ensures ∙ z.loop-span-test.false) in
@@ -179,4 +179,4 @@ returns c =
           let b = sym (get_or-drop i xs e.result 0) ∙ n.ends (omega (arith, length-drop i xs)) in
           (b, omega (arith, waits-room _ _ _ (sym z.waits.ensures ∙ z.if-waits.true) (omega (arith, h, d, left-long xs l.rest.now r)), w.length_is, w.within))
     ] in
-    rw c.session_of-2.ensures (feeding a.s _ _ v t stops)
+    rw c.session_of-session.ensures (feeding a.s _ _ v t stops)

@@ -12,7 +12,7 @@ abbrev pub invariant-loop-span : goal.invariant-loop-span
 invariant-loop-span l = record {
   left : l.rest ≡ drop (length l.xs - length l.rest) l.xs;
   passed : Passed (record { board = plain_of (session_of l.initial.parts.setting l.initial.parts.entries); part = [] }) l.xs l.initial.page l.page
-      (session_of l.parts.setting l.parts.entries) [] l.at (length l.xs - length l.rest);
+      (session_of l.parts.setting l.parts.entries) [] l.next (length l.xs - length l.rest);
 }
 
 abbrev pub decreases-loop-span : goal.decreases-loop-span
