@@ -31,18 +31,6 @@ use Rattle.plain.proofs.Played.{heard-refused}
 
 -- ---- identities
 
--- the first of the identities are those of the first entries
-pub identities-first : (es : List Target) (n : ℕ) → length es ≡ most_targets → n ≤ most_targets → take n (identities es n) ≡ map identity_of (take n es)
-unfolding identities
-identities-first es n full small =
-    take_at (map identity_of (take n es)) _ n (length-map identity_of (take n es) ∙ length-take-le n es (omega arith))
-
--- there are 64 with the zeros
-pub length-identities : (es : List Target) (n : ℕ) → length es ≡ most_targets → n ≤ most_targets → length (identities es n) ≡ most_targets
-unfolding identities
-length-identities es n full small =
-    rw (length-append, length-map identity_of (take n es), length-take-le n es (omega arith), length-drop, length-replicate {A = ℕ} most_targets 0) (omega arith)
-
 -- a search of the identities is one of the entries
 pub sought : (es : List Target) (ids : List ℕ) (n x : ℕ) → take n ids ≡ map identity_of (take n es) → spot_in 0 x (take n ids) ≡ spot_from 0 x (take n es)
 unfolding spot_from

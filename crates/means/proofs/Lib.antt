@@ -1,4 +1,3 @@
 pub mod Laid
-pub mod Means
 pub mod Coordinates
 pub mod Entries

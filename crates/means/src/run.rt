@@ -1,8 +1,5 @@
 // The mean of positions that are read one by one, however they lie.
 ghost use Rattle.std.specs.Prelude.{◌≡◌, ◌<◌, List, length, get_or};
-ghost use Rattle.std.specs.Float.Ieee as Ieee;
-ghost use Rattle.std.specs.List.{list_any};
-ghost use Rattle.jord.specs.Positions.{as_vec3};
 ghost use Rattle.jord.specs.declared.positions.NVector.{NVector};
 ghost use Rattle.means.specs.Mean as spec;
 
@@ -49,22 +46,11 @@ fn contains_antipodal<R: Run>(ps: R) -> bool
     (0..ps.len()).any(|i| contains(ps, ps.at(i).antipode()))
 }
 
-// Whether a position equals a. The x alone first: most often none has it.
+// Whether a position equals a.
 fn contains<R: Run>(ps: R, a: NVector) -> bool
     ensures { result ≡ spec.contains a (R.listed ps) }
 {
-    among(ps, a.as_vec3().x) && (0..ps.len()).any(|i| ps.at(i) == a)
-}
-
-// Whether a position's x equals x. There is no early return, so that several are compared at once.
-fn among<R: Run>(ps: R, x: f64) -> bool
-    ensures { result ≡ list_any (λ p. Ieee.eq (as_vec3 p).x x) (R.listed ps) }
-{
-    let mut found = false;
-    for i in 0..ps.len() {
-        found |= ps.at(i).as_vec3().x == x;
-    }
-    found
+    (0..ps.len()).any(|i| ps.at(i) == a)
 }
 
 // The source's `Vec3::mean`: the unit vector along the sums of the parts, in the order of the positions.

@@ -9,7 +9,7 @@ use Rattle.targets.specs.Slots.{identity_of, identities}
 use Rattle.plain.specs.Code.{plain}
 use Rattle.board.specs.Glance.{setting_of, board_of, Under, Turns, Glanced, glance}
 use Rattle.std.proofs.lemmas.List.{take-map}
-use Rattle.board.proofs.Glances.{identities-first, glanced}
+use Rattle.board.proofs.Glances.{glanced}
 use Rattle.plain.proofs.Listed.{at-most-le}
 use Rattle.plain.specs.declared.targets.Targets.{Targets}
 use Rattle.sessions.specs.declared.session.Session.{Session}
@@ -39,13 +39,7 @@ pub session-none : (s : Session) (es : List Target) → s.board ≡ None → ses
 unfolding session_of
 session-none s es off = rw off
 
--- the identities of a board's targets are those of its entries
-pub under-own : (q : Setting) (ts : Targets) (ids : List ℕ) → length ts.entries ≡ most_targets → ts.count ≡ q.count
-    → ids ≡ identities ts.entries (at_most ts.count) → Under q ids ts.entries
-under-own q ts ids l k e =
-    record { length_is = l; same = rw (e, ← k) (identities-first ts.entries (at_most ts.count) l (at-most-le ts.count)) }
-
--- and entries have their own
+-- entries have their own identities
 pub standing-own : (o : Option Setting) (es : List Target) → length es ≡ most_targets → Standing o (map identity_of es) es
 unfolding Standing
 standing-own None es l = tt
@@ -74,7 +68,7 @@ call-right (Some s) ids c = hinted-right s ids c (glance s ids c) (glanced s ids
 call-right None ids c = λ es u. not-heard (session_of None es) c refl
 
 total_right : (o : Option Setting) (es : List Target) → total_reply o ≡ reply_of (plain_of (session_of o es)) (Some frame.Total)
-unfolding reply_of plain_of session_of if_started board_of plain total_reply
+unfolding reply_of plain_of session_of if_started board_of plain
 total_right (Some s) es = refl
 total_right None es = refl
 

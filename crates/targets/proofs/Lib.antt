@@ -2,4 +2,3 @@ pub mod Arrays
 pub mod Spots
 pub mod Slots
 pub mod Picks
-pub mod Columns

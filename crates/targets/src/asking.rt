@@ -1,23 +1,18 @@
 // What is asked of a board: nothing changes.
-ghost use Rattle.std.specs.Prelude.{◌≡◌, ◌*◌, fold, length, None};
+ghost use Rattle.std.specs.Prelude.{◌≡◌, fold, None};
 ghost use Rattle.plain.specs.Asking as asked;
 ghost use Rattle.plain.specs.Code.{plain};
-ghost use Rattle.plain.specs.Targets.{most_targets};
 ghost use Rattle.targets.specs.Asking as spec;
 
 use crate::least;
 use jord::positions::NVector;
 use means::NoMean;
-use means::columns::mean_of_columns;
+use means::lent::mean_position_of;
 use plain::call::Refusal;
 use plain::line::Line;
 use plain::state::Board;
-use plain::targets::{MOST_TARGETS, Target};
-use vectors::vec3::Vec3;
+use plain::targets::Target;
 use walks::Outcome;
-
-// Three parts for each target.
-const MOST_PARTS: usize = 3 * MOST_TARGETS;
 
 // A target's identity and its found meeting time, in nanoseconds.
 #[derive(Clone, Copy)]
@@ -39,30 +34,8 @@ pub fn mean(board: Board) -> Result<NVector, NoMean>
 {
     let targets = board.targets;
     let entries = targets.entries;
-    let cs = columns_of(entries);
-    mean_of_columns(&cs, least(targets.count))
-}
-
-// The parts of the positions of all entries, all x, then all y, then all z.
-// Not `entries.map(..)` lent to `mean_position_of`: that mean takes twice the time, for a search by x compares several numbers of a column at once.
-fn columns_of(entries: [Target; MOST_TARGETS]) -> [f64; MOST_PARTS]
-    ensures { spec.Columns entries most_targets result × (length entries ≡ most_targets) × (length result ≡ 3 * most_targets) }
-{
-    let mut cs = [0.0; MOST_PARTS];
-    for (i, t) in entries.iter().enumerate() {
-        let v = vector_of(*t);
-        cs[i] = v.x;
-        cs[MOST_TARGETS + i] = v.y;
-        cs[2 * MOST_TARGETS + i] = v.z;
-    }
-    cs
-}
-
-// The position of a target, as a vector.
-fn vector_of(t: Target) -> Vec3
-    ensures { result ≡ spec.vector_of t }
-{
-    t.held.report.position.as_vec3()
+    let ps = entries.map(|t| t.held.report.position);
+    mean_position_of(&ps[..least(targets.count)])
 }
 
 // The target of the lowest identity among those whose found meeting time is least; NoMeeting (19) where none has one.
