@@ -1,11 +1,11 @@
 -- What a glance tells holds of every board of the setting (`glanced`): the questions of a report, a store where its identity stands, and a sweep.
 use Rattle.std.specs.Prelude.{Option, Some, None, Result, Ok, Err}
-use Prim.Native.Nat.{ℕ, zero, suc, ◌≤◌, ◌<◌}
+use Prim.Native.Nat.{ℕ, zero, suc, ◌<◌}
 use native.Mathlib.Omega.{arith}
 use mathlib.Core.List.{List, [], ◌∷◌, map}
 use mathlib.Core.Path.{◌≡◌, refl, sym, ap, ◌∙◌}
-use lib.ListN.{length, take, set, length-set, length-append, length-drop, length-replicate}
-use lib.Seq.{take_at, take-set-lt, map-set_same, length-take-le}
+use lib.ListN.{take, set, length-set}
+use lib.Seq.{take-set-lt, map-set_same}
 use Rattle.plain.specs.declared.call.Refusal.{Refusal}
 use Rattle.plain.specs.declared.targets.Target.{Target}
 use Rattle.board.specs.declared.glance.Setting.{Setting}
@@ -16,7 +16,7 @@ use Rattle.plain.specs.declared.call.Fix.{Fix}
 use Rattle.plain.specs.declared.call.Call.{Call}
 use Rattle.plain.specs.declared.call.Call.TheVariants.{Report, Withdraw, OwnShip, Track, Solve}
 use Rattle.plain.specs.Targets.{most_targets, at_most, listed, bare_target, bared}
-use Rattle.targets.specs.Slots.{identity_of, identities, spot_in, spot_from}
+use Rattle.targets.specs.Slots.{identity_of, spot_in, spot_from}
 use Rattle.plain.specs.Call.{Answer, vehicle, named}
 use Rattle.plain.specs.Questions.{Said, ask, identity_asked, ask_fix, fix_asked, ends_asked}
 use Rattle.plain.specs.Board.{Plain, answer, after, outcome, accepted, targets_after, put, swept, leaves}

@@ -25,7 +25,6 @@ impl Run for InTurn<'_> {
 }
 
 // The first n of m positions: all x, then all y, then all z.
-// The columns share one slice and are no array of positions: where one x follows another, a search by x compares several at once, in half the time.
 #[derive(Clone, Copy)]
 struct InColumns<'a> {
     cs: &'a [f64],

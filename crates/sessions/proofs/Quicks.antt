@@ -5,13 +5,11 @@ use mathlib.Core.List.{List, map}
 use mathlib.Core.Path.{◌≡◌, refl, sym}
 use lib.ListN.{length}
 use Rattle.plain.specs.Targets.{most_targets, at_most}
-use Rattle.targets.specs.Slots.{identity_of, identities}
+use Rattle.targets.specs.Slots.{identity_of}
 use Rattle.plain.specs.Code.{plain}
-use Rattle.board.specs.Glance.{setting_of, board_of, Under, Turns, Glanced, glance}
+use Rattle.board.specs.Glance.{setting_of, board_of, Turns, Glanced, glance}
 use Rattle.std.proofs.lemmas.List.{take-map}
 use Rattle.board.proofs.Glances.{glanced}
-use Rattle.plain.proofs.Listed.{at-most-le}
-use Rattle.plain.specs.declared.targets.Targets.{Targets}
 use Rattle.sessions.specs.declared.session.Session.{Session}
 use Rattle.plain.specs.declared.call.Call.{Call}
 use Rattle.board.specs.declared.glance.Setting.{Setting}

@@ -11,7 +11,8 @@ use means::lent::mean_position_of;
 use plain::call::Refusal;
 use plain::line::Line;
 use plain::state::Board;
-use plain::targets::Target;
+use plain::targets::{MOST_TARGETS, Target};
+use std::array;
 use walks::Outcome;
 
 // A target's identity and its found meeting time, in nanoseconds.
@@ -34,7 +35,7 @@ pub fn mean(board: Board) -> Result<NVector, NoMean>
 {
     let targets = board.targets;
     let entries = targets.entries;
-    let ps = entries.map(|t| t.held.report.position);
+    let ps: [NVector; MOST_TARGETS] = array::from_fn(|i| entries[i].held.report.position);
     mean_position_of(&ps[..least(targets.count)])
 }
 
