@@ -205,25 +205,24 @@ fn both_at(a: Reduction) -> SinCos
 pub fn sin_cos(x: f64) -> SinCos
     ensures { result ≡ spec.sin_cos x }
 {
-    let mut sin = 0.0;
-    let mut cos = 0.0;
-    sin_cos_into(x, &mut sin, &mut cos);
-    SinCos { sin, cos }
-}
-
-// The same, each stored in a number that is lent: two words are read back sooner than a struct of two, and a walk waits for them at each step.
-pub fn sin_cos_into(x: f64, sin: &mut f64, cos: &mut f64)
-    ensures { (sin.new ≡ spec.sin x) × (cos.new ≡ spec.cos x) }
-{
     // A NaN leaves first, so that no test for one lengthens the way of the others.
     if x.is_nan() {
-        *sin = x;
-        *cos = x;
-        return;
+        return SinCos { sin: x, cos: x };
     }
     let a = reduce(x);
     let both = both_at(a);
-    *sin = negated_if(sign_bit(x), both.sin);
+    SinCos {
+        sin: negated_if(sign_bit(x), both.sin),
+        cos: both.cos,
+    }
+}
+
+// The same, each stored in a number that is lent, as C takes it.
+pub fn sin_cos_into(x: f64, sin: &mut f64, cos: &mut f64)
+    ensures { (sin.new ≡ spec.sin x) × (cos.new ≡ spec.cos x) }
+{
+    let both = sin_cos(x);
+    *sin = both.sin;
     *cos = both.cos;
 }
 

@@ -1,12 +1,12 @@
--- `sin_cos_into` meets its contract.
-use mathlib.Core.Path.{refl, sym}
+-- `sin_cos` meets its contract.
+use mathlib.Core.Path.{refl}
 use Rattle.float.specs.Trig as spec
 use Rattle.patterns.proofs.Pattern.{told-nan}
 use Rattle.float.specs.Table.{sine-of-nan, cosine-of-nan}
-use Rattle.float.proofs.trig.sin_cos_into.Goals as goal
+use Rattle.float.proofs.trig.sin_cos.Goals as goal
 
 pub returns-then-is_nan : goal.returns-then-is_nan
-returns-then-is_nan c = rw (told-nan c.args.x c.is_nan.ensures.value c.if-is_nan.true) (sym sine-of-nan, sym cosine-of-nan)
+returns-then-is_nan c = rw (told-nan c.args.x c.is_nan.ensures.value c.if-is_nan.true, sine-of-nan, cosine-of-nan) refl
 
 pub returns : goal.returns
 unfolding spec.sin spec.cos
@@ -17,4 +17,4 @@ returns c =
       c.both_at-both.ensures,
       c.reduce-a.ensures,
     )
-    (refl, refl)
+    refl
