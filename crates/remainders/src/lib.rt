@@ -58,6 +58,7 @@ pub fn rem(x: f64, y: f64) -> f64
     }
     let p = f64::to_bits(x);
     let q = f64::to_bits(y);
+    // By the patterns, which are at hand: their parts are taken next.
     if p % SIGN < q % SIGN {
         return x;
     }

@@ -13,15 +13,11 @@ pub fn is_digit(b: u8) -> bool
     matches!(b, b'0'..=b'9') | matches!(b, b'a'..=b'f')
 }
 
-// Are all bytes of s digits? No early return: the compiler then tests 16 at once.
+// Are all bytes of s digits? No `all`, which returns early: without that the compiler tests 16 at once.
 fn each_digit(s: &[u8]) -> bool
     ensures { result ≡ all_digits s.now }
 {
-    let mut ok = true;
-    for b in s {
-        ok &= is_digit(*b);
-    }
-    ok
+    s.iter().fold(true, |ok, b| ok & is_digit(*b))
 }
 
 // Are all bytes of a short slice digits? From 8 on they are two blocks of 8, which may overlap.
@@ -112,6 +108,7 @@ fn eight(bytes: &[u8; 8]) -> u64
 }
 
 // The bytes of s from at on, and none where it ends before.
+// A slice and a place stay two parameters in all that follows: a frame's fields are read out of one line, each at its place.
 fn tail(s: &[u8], at: usize) -> &[u8]
     ensures { result.now ≡ drop at s.now }
 {
@@ -135,7 +132,7 @@ pub fn sixteen_at(s: &[u8], at: usize) -> u64
     ensures value { result ≡ lows_in s.now at 16 }
     ensures unchanged { s.exit.now ≡ s.entry.now }
 {
-    // Not one with `two_at`: a shared function would take the parts, their reader and a part's weight, which is all that these lines say.
+    // Not one with `two_at`: over a const width the checker takes no bound `Fn` that names it, and a function over the parts, their reader and their weight says no less.
     let [high, rest, ..] = tail(s, at).as_chunks::<8>().0 else {
         return 0;
     };

@@ -184,7 +184,7 @@ impl Vec3 {
         sqrt(self.squared_norm())
     }
 
-    // The stable cross product, made of length one.
+    // The stable cross product, made of length one. Beside `stable_cross_prod` as in the source: one over what is made of two vectors would be no shorter.
     pub fn stable_cross_prod_unit(self, o: Vec3) -> Self
         ensures { result ≡ spec.stable_cross_prod_unit self o }
     {
@@ -202,7 +202,7 @@ impl Vec3 {
         a.cross_prod(b)
     }
 
-    // o + self, a part of -0.0 kept.
+    // o + self, a part of -0.0 kept: `add`, the source's, makes it 0.0, by `Vec3::new`. So `differences` beside `sub`.
     pub fn sums(self, o: Vec3) -> Self
         ensures { result ≡ spec.sums self o }
     {

@@ -5,25 +5,12 @@ use Rattle.std.specs.Float.Ieee.{lt, eq, le}
 use Rattle.std.specs.Ordering.{partial_lt, partial_le, float_partial_cmp, is_lt, is_le, is_some_and}
 use Rattle.vectors.specs.Literal.{zero}
 use Rattle.jord.specs.Angle.{normalised_to}
+use Rattle.jord.proofs.Compare.{as_le, as_lt}
 use Rattle.jord.proofs.angle.Angle.normalised_to.Goals as goal
-
--- floats are in order by `<=` and by `<`
-by_le : (l e g : Bool) → is_some_and is_le (cond l (Some Less) (cond e (Some Equal) (cond g (Some Greater) None))) ≡ (l || e)
-by_le true e g = refl
-by_le false true g = refl
-by_le false false true = refl
-by_le false false false = refl
-
-by_lt : (l e g : Bool) → is_some_and is_lt (cond l (Some Less) (cond e (Some Equal) (cond g (Some Greater) None))) ≡ l
-by_lt true e g = refl
-by_lt false true g = refl
-by_lt false false true = refl
-by_lt false false false = refl
 
 -- what a range from 0.0 to below m tells of x
 tells : (x m : Float) {r b : Bool} → r ≡ (partial_le float_partial_cmp zero x && partial_lt float_partial_cmp x m) → r ≡ b → (le zero x && lt x m) ≡ b
-unfolding le lt
-tells x m h is = rw (← is, h, by_le (lt zero x) (eq zero x) (lt x zero), by_lt (lt x m) (eq x m) (lt m x))
+tells x m h is = rw (← is, h, as_le zero x, as_lt x m) refl
 
 pub returns-then-contains : goal.returns-then-contains
 unfolding normalised_to

@@ -4,19 +4,9 @@ use Rattle.std.specs.Float.{Float}
 use Rattle.std.specs.Float.Ieee.{lt, eq, le}
 use Rattle.std.specs.Ordering.{partial_lt, partial_le, float_partial_cmp, is_le, is_some_and}
 use Rattle.vectors.specs.Literal.{zero, one}
+use Rattle.jord.proofs.Compare.{as_le}
 use Rattle.spherical.specs.Sphere.{is_fraction, interpolated_position}
 use Rattle.spherical.proofs.sphere.Sphere.interpolated_position.Goals as goal
-
--- floats are in order by `<=`
-by_tests : (l e g : Bool) → is_some_and is_le (cond l (Some Less) (cond e (Some Equal) (cond g (Some Greater) None))) ≡ (l || e)
-by_tests true e g = refl
-by_tests false true g = refl
-by_tests false false true = refl
-by_tests false false false = refl
-
-as_le : (x y : Float) → partial_le float_partial_cmp x y ≡ le x y
-unfolding le lt
-as_le x y = by_tests (lt x y) (eq x y) (lt y x)
 
 -- what a range from 0.0 to 1.0 tells of f
 tells : (f : Float) {s e : Float} {x r b : Bool} → s ≡ zero → e ≡ one → x ≡ false
