@@ -230,10 +230,7 @@ fn corrected(ti: f64, fi: f64) -> Step
     ensures { result ≡ spec.corrected ti fi }
 {
     let ti1 = ti - fi;
-    if magnitude(fi) < INTERCEPT_NR_EPSILON {
-        return Step::Accepted(ti1);
-    }
-    if ti1 == ti {
+    if magnitude(fi) < INTERCEPT_NR_EPSILON || ti1 == ti {
         return Step::Accepted(ti1);
     }
     Step::Next(ti1)
