@@ -13,7 +13,7 @@ pub const KEPT: usize = MOST_FRAME_DIGITS + 1;
 // The byte that ends a line.
 pub const NEWLINE: u8 = 10;
 
-// The end of a line, and whether its bytes are digits alone.
+// The end of a line, and whether its bytes are digits alone. No `Option` of an end: a line that is not digits alone has an end as well, and is answered and passed over.
 #[derive(Clone, Copy)]
 pub struct LineSpan {
     pub end: usize,
@@ -28,6 +28,7 @@ pub(crate) fn end_of_line(s: &[u8]) -> usize
 }
 
 // The length that the first line of s has if it is a frame, by the second digit of its kind. What it says is tested.
+// 0 and no `Option` where that digit is of no kind: an empty line has this length, so the one test, that a newline stands there, serves for it as well.
 fn likely_length(s: &[u8]) -> usize {
     s.get(1)
         .and_then(|digit| Kind::of_number(digit.wrapping_sub(b'0') as u64))

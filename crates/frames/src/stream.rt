@@ -25,6 +25,7 @@ pub struct Stream {
 }
 
 // A session in its parts: all of its board but the entries, where it has one, and the entries of its targets.
+// With no board the entries are an empty list's: `look` takes both parts as they stand, and an `Option` of the two would be taken apart at each line to change entries in place.
 #[derive(Clone, Copy)]
 struct InParts {
     setting: Option<Setting>,

@@ -30,6 +30,7 @@ fn pour<W: Write>(out: &mut W, s: Stream, xs: &[u8], page: &mut [u8]) -> Result<
 {
     let mut stream = s;
     let mut rest = xs;
+    // No `chunks`: each turn takes as much of the rest as `feed` uses, by its lines and the page.
     while !rest.is_empty() {
         let fed = frames::stream::feed(stream, rest, page);
         stream = fed.stream;
@@ -68,12 +69,9 @@ fn run<R: Read, W: Write>(input: &mut R, out: &mut W) -> Result<(), Failure>
 // How many words was the program started with? Its own name is the first. With the host's runtime it rests on this one call; with any runtime it would rest on all.
 fn words(rt: &HostRuntime) -> usize {
     let mut first = [0u8; 1];
-    for i in 0..usize::MAX {
-        if let Err(FillError::NotPresent) = rt.arg(i, &mut first) {
-            return i;
-        }
-    }
-    usize::MAX
+    (0..usize::MAX)
+        .find(|i| matches!(rt.arg(*i, &mut first), Err(FillError::NotPresent)))
+        .unwrap_or(usize::MAX)
 }
 
 // With any argument it says how it is used, and reads nothing.

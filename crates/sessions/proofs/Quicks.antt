@@ -77,7 +77,7 @@ quickly o ids (Some (frame.Fresh r)) = tt
 quickly o ids (Some (frame.Told c)) = call-right o ids c
 quickly o ids (Some frame.Mean) = tt
 quickly o ids (Some frame.Pick) = tt
-quickly o ids (Some frame.Total) = λ es u. asked (session_of o es) (Some frame.Total) refl (total_right o es) refl
+quickly o ids (Some frame.Total) = λ es u. asked (session_of o es) (Some frame.Total) refl refl (total_right o es) refl
 quickly o ids None = λ es u. no-frame (session_of o es) refl
 
 -- a call of a session that has a board, by the glance's hint

@@ -17,6 +17,7 @@ use Rattle.wire.specs.declared.reply.Reason.{Reason}
 use Rattle.wire.specs.declared.reply.Reply.{Reply}
 use Rattle.wire.specs.declared.reply.Reply.TheVariants as reply
 use Rattle.sessions.specs.declared.session.Session.{Session}
+use Rattle.sessions.specs.declared.session.Stepped.{Stepped}
 use Rattle.sessions.specs.Session.{plain_of, kind_of, told, if_started, after_call, begun, reply_of, next, Stepping}
 
 pub opened : (s : Session) {b : Board} → s.board ≡ Some b → plain_of s ≡ Some (plain b)
@@ -63,9 +64,13 @@ heard s c {r = r} on a h k e =
     }
 
 -- a frame that leaves the session as it is
-pub asked : (s : Session) (g : Option Frame) {f : Option Frame} {y : Reply Kind Reason} → f ≡ g → y ≡ reply_of (plain_of s) g → plain_of s ≡ next (plain_of s) g
-    → Stepping s f (record { session = s; reply = y })
-asked s g e h k = record { reply_is = h ∙ ap (reply_of (plain_of s)) (sym e); session_is = k ∙ ap (next (plain_of s)) (sym e) }
+pub asked : (s : Session) (g : Option Frame) {f : Option Frame} {r : Stepped} → f ≡ g → r.session ≡ s → r.reply ≡ reply_of (plain_of s) g
+    → plain_of s ≡ next (plain_of s) g → Stepping s f r
+asked s g e l h k =
+    record {
+      reply_is = h ∙ ap (reply_of (plain_of s)) (sym e);
+      session_is = ap plain_of l ∙ k ∙ ap (next (plain_of s)) (sym e);
+    }
 
 -- the reply to what is asked of a board, or number 1 where there is none
 pub asked-of : (s : Session) (f : Plain → Reply Kind Reason) {y : Reply Kind Reason}

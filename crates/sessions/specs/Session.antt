@@ -1,11 +1,12 @@
 -- A session: a plain board, or none yet. What one frame makes of it, and what it is answered. Definitions only.
-use Rattle.std.specs.Prelude.{ℕ, ◌≡◌, option_map, Option, Some, None, Result, Ok, Err}
+use Rattle.std.specs.Prelude.{ℕ, ◌≡◌, MatchOption, option_map, Option, Some, None, Result, Ok, Err}
 use Rattle.plain.specs.declared.call.Refusal.{Refusal}
 use Rattle.plain.specs.Asking.{mean, pick}
 use Rattle.plain.specs.Board.{Plain, fresh, begins, answer, after}
 use Rattle.plain.specs.Call.{Answer}
 use Rattle.plain.specs.Code.{plain}
 use Rattle.plain.specs.declared.call.Call.{Call}
+use Rattle.plain.specs.declared.state.Board.{Board}
 use Rattle.plain.specs.declared.call.Call.TheVariants.{Report, Withdraw, OwnShip, Track, Solve}
 use Rattle.means.specs.Mean.{Mean}
 use Rattle.jord.specs.Positions.{as_vec3}
@@ -91,3 +92,8 @@ plain_of s = option_map plain s.board
 pub record Stepping (s : Session) (f : Option Frame) (r : Stepped) : Type 0 where
   pub reply_is : r.reply ≡ reply_of (plain_of s) f
   pub session_is : plain_of r.session ≡ next (plain_of s) f
+
+-- what is asked of a session's board: the session stays, and the reply is by what `post` says that asking gives
+pub record Asked (s : Session) (post : Board → Reply Kind Reason → Type 0) (r : Stepped) : Type 0 where
+  pub session_is : r.session ≡ s
+  pub reply_is : MatchOption s.board (r.reply ≡ reply.NotAFrame) (λ b. post b r.reply)

@@ -13,6 +13,7 @@ use wire::reply::Reply;
 
 // What a quick look tells of a frame.
 // An enum of its own, not a reply or a hint beside its kind, as `Called(Kind, Hint)`: who reads that has an arm for a reply and one for an answer, and the session stays in both.
+// Nor a `Hint` generic in its answer and a kind: a board's hint has no kind, so two of its arms would hold a `()`, in board's definitions too, and `at_call` keeps its three arms.
 #[derive(Clone, Copy)]
 pub enum Quick {
     // The reply, and the session stays as it was.

@@ -90,7 +90,7 @@ fn tell(s: Session, call: Call) -> Stepped
     }
 }
 
-// The reply to a mean.
+// The reply to a mean. `pick_told` stands beside it: one function for both would take the kind, the answer's reply and the reason's variant, which is all that either arm holds.
 fn mean_told(m: Result<NVector, NoMean>) -> Reply
     ensures { result ≡ spec.mean_told m }
 {
@@ -110,6 +110,17 @@ fn pick_told(choice: Result<u16, Refusal>) -> Reply
     }
 }
 
+// The session as it was, and what is asked of its board, ff01 where none has been started.
+fn asked<A: FnOnce(Board) -> Reply>(s: Session, ask: A) -> Stepped
+    requires { A.IsAlwaysCallable ask }
+    ensures { spec.Asked s (A.post ask) result }
+{
+    Stepped {
+        session: s,
+        reply: s.board.map_or(Reply::NotAFrame, ask),
+    }
+}
+
 // What a line makes of a session, and its reply: the frame that it is, if it is one.
 pub fn step(s: Session, frame: Option<Frame>) -> Stepped
     ensures { spec.Stepping s frame result }
@@ -117,24 +128,9 @@ pub fn step(s: Session, frame: Option<Frame>) -> Stepped
     match frame {
         Some(Frame::Fresh(radius)) => start(s, radius),
         Some(Frame::Told(call)) => tell(s, call),
-        Some(Frame::Mean) => Stepped {
-            session: s,
-            reply: s
-                .board
-                .map_or(Reply::NotAFrame, |board| mean_told(mean(board))),
-        },
-        Some(Frame::Pick) => Stepped {
-            session: s,
-            reply: s
-                .board
-                .map_or(Reply::NotAFrame, |board| pick_told(pick(board))),
-        },
-        Some(Frame::Total) => Stepped {
-            session: s,
-            reply: s
-                .board
-                .map_or(Reply::NotAFrame, |board| Reply::Total(total(board))),
-        },
+        Some(Frame::Mean) => asked(s, |board| mean_told(mean(board))),
+        Some(Frame::Pick) => asked(s, |board| pick_told(pick(board))),
+        Some(Frame::Total) => asked(s, |board| Reply::Total(total(board))),
         None => Stepped {
             session: s,
             reply: Reply::NotAFrame,

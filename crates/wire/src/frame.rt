@@ -96,7 +96,7 @@ fn of_kind(kind: Kind, s: &[u8]) -> Option<Frame>
 }
 
 // The frame that a line without its newline is, told by `digits` whether it is digits alone. Of a line that is not, and is said to be, bytes count by their low bits.
-// It takes `digits` and no `Option` of a line: `digits` says what the line is, not whether there is one, and a line that is not digits alone has no frame.
+// It takes `digits` beside the line and no `Option` of a line: `frame_known` says what comes of any line by what is told of it, true or not, so the two stand apart.
 pub fn read_known(s: &[u8], digits: bool) -> Option<Frame>
     ensures value { result ≡ known.frame_known digits s.now }
     ensures unchanged { s.exit.now ≡ s.entry.now }

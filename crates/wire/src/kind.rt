@@ -21,6 +21,7 @@ pub enum Kind {
 }
 
 // What a byte of a reply stands for: a kind, a reason, a side, or nothing but itself.
+// No `Into<u8>` of std: its `converts` is a relation, which may hold of several bytes, and `digits_by`, which says a reply's digits, takes the byte as a function.
 pub trait Byte: Copy {
     ghost byte: { Self → ℕ };
 

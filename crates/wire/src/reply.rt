@@ -66,7 +66,7 @@ fn put_byte<B: Byte>(out: &mut [u8], at: usize, b: B) -> usize
     requires { at + 2 ≤ length out.old }
     ensures { Wrote out.old at 2 (digits 2 (B.byte b)) out.new result }
 {
-    hex_digits::put_number(out, at, b.byte() as u64, 2)
+    hex_digits::put_number(out, at, u64::from(b.byte()), 2)
 }
 
 // A kind, and a number, 00 for done, or why it is refused: four digits.
@@ -91,9 +91,9 @@ fn put_outcome(out: &mut [u8], at: usize, o: Outcome) -> usize
     requires { at + 20 ≤ length out.old }
     ensures { Wrote out.old at 20 (spec.outcome_digits o) out.new result }
 {
-    let time = hex_digits::put_number(out, at, o.number() as u64, 2);
+    let time = put_byte(out, at, o.number());
     let count = hex_digits::put_number(out, time, o.nanoseconds(), 16);
-    hex_digits::put_number(out, count, o.count() as u64, 2)
+    hex_digits::put_number(out, count, u64::from(o.count()), 2)
 }
 
 // The fields of a line: 110 digits.
@@ -151,11 +151,11 @@ fn write<K: Byte, R: Byte>(out: &mut [u8], at: usize, reply: Reply<K, R>) -> usi
         }
         Reply::Pick(identity) => {
             let next = put_head(out, at, Kind::Pick, 0u8);
-            hex_digits::put_number(out, next, identity as u64, 4)
+            hex_digits::put_number(out, next, u64::from(identity), 4)
         }
         Reply::Total(total) => {
             let next = put_head(out, at, Kind::Total, 0u8);
-            hex_digits::put_number(out, next, total as u64, 8)
+            hex_digits::put_number(out, next, u64::from(total), 8)
         }
         Reply::NotAFrame => hex_digits::put_number(out, at, NOT_A_FRAME, 4),
     }

@@ -1,5 +1,5 @@
 -- What is used makes up the piece.
-use Rattle.std.proofs.Common.{◌-◌, ◌<◌, ◌≤◌, List, [], ◌∷◌, ◌++◌, Bool, true, false, ◌==◌, Option, ℕ, length, take, drop, refl, sym, ap, subst, ◌≡◌, ◌∙◌, OnOk, arith}
+use Rattle.std.proofs.Common.{◌-◌, ◌<◌, List, [], ◌∷◌, ◌++◌, Bool, true, false, ◌==◌, ℕ, length, take, drop, refl, sym, ap, subst, ◌≡◌, ◌∙◌, OnOk, arith}
 use Rattle.std.proofs.Common.{take_all, length-drop, append_assoc, append-nil}
 use borrow.Author.Tests.{eqb-true}
 use Rattle.std.specs.declared.io.Error.{Error}

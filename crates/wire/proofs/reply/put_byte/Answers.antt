@@ -4,4 +4,4 @@ use Rattle.wire.proofs.reply.put_byte.Goals as goal
 
 pub returns : goal.returns
 returns g c =
-    rw c.byte.ensures at (number-wrote 2 _ c.put_number.ensures c.requires)
+    rw (c.from.ensures, c.byte.ensures) at (number-wrote 2 _ c.put_number.ensures c.requires)

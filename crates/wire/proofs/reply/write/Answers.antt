@@ -66,14 +66,14 @@ unfolding digits_by
 returns-in-Pick g c =
     let e = c.in-Pick.is in
     let w = more 4 _ c.put_head-next-in-Pick.ensures c.put_number.ensures (omega (arith, c.requires, sized g.K.Byte.byte g.R.Byte.byte _ _ e)) in
-    as-length w (sym (ap (digits_by _ _) e))
+    as-length (rw c.from.ensures at w) (sym (ap (digits_by _ _) e))
 
 pub returns-in-Total : goal.returns-in-Total
 unfolding digits_by
 returns-in-Total g c =
     let e = c.in-Total.is in
     let w = more 8 _ c.put_head-next-in-Total.ensures c.put_number-in-Total.ensures (omega (arith, c.requires, sized g.K.Byte.byte g.R.Byte.byte _ _ e)) in
-    as-length w (sym (ap (digits_by _ _) e))
+    as-length (rw c.from-in-Total.ensures at w) (sym (ap (digits_by _ _) e))
 
 pub returns-in-NotAFrame : goal.returns-in-NotAFrame
 unfolding digits_by digits
