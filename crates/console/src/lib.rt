@@ -61,7 +61,8 @@ fn say<W: Write>(
 const EPIPE: i32 = 32;
 
 // Is a failed write with this errno a fault? An output that nobody reads any more is none.
-// By the errno, not by std's `ErrorKind`: no contract of std says of an error at hand that its kind is that of its errno, and `is_told` speaks of the errno.
+// By the errno, which `is_told` speaks of, not by std's `ErrorKind`: std ties the two of an error that `from_raw_os_error` makes, and of none that is at hand.
+// To make one here and ask its kind would be no plainer than to compare two numbers.
 pub fn is_fault(error: i32) -> bool
     ensures { result ≡ is_fault error }
 {

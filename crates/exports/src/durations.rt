@@ -14,6 +14,7 @@ fn store(s: Result<u64, OutOfRange>, nanoseconds: &mut u64) -> u8
             *nanoseconds = n;
             0
         }
+        // By document 01's number, for a Result has no form in the C interface.
         Err(e) => e.number(),
     }
 }

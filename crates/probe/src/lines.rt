@@ -18,6 +18,8 @@ const ANSWER: usize = 1024;
 pub(crate) type Line = ArrayVec<u8, KEPT>;
 
 // Answers each line that ends in xs. The page goes out whenever an answer might not fit, and at the end.
+// Byte by byte, for a line may be cut between pieces and its first KEPT bytes are all that is kept: of parts by `split` the last would have to be told
+// from the others, as it ends no line, and each would have to be cut to the room that is left.
 pub(crate) fn pour<W: Write>(
     out: &mut W,
     line: &mut Line,

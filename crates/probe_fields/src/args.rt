@@ -20,6 +20,7 @@ pub const DIGITS: usize = 16;
 pub const FIELD: usize = 1 + DIGITS;
 
 // The fields of the arguments, and the place of the next.
+// A place, not a slice of what is left: that is empty both at the end and past it, and `is_spent` has to tell a call with too few arguments.
 #[derive(Drop)]
 pub struct Args<'a> {
     fields: &'a [u8],

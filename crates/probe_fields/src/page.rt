@@ -5,6 +5,9 @@ ghost use Rattle.hex_digits.specs.Write.{Put};
 ghost use Rattle.probe_fields.specs.Page as spec;
 
 // Lent bytes, and the place past those that are written.
+// A place beside the whole slice, not a slice of what is left: `written` and `truncate` go back to its start.
+// `same_reference` stands at each function that makes or changes a page: its caller learns of its own bytes only while the page is known to hold the same `&mut`.
+// `size` stands beside `written`, for by that alone each caller would need an induction over the pieces.
 #[derive(Drop)]
 pub struct Page<'a> {
     bytes: &'a mut [u8],

@@ -35,6 +35,7 @@ fn of_coordinates(args: &mut Args) -> Result<NVector, NoMean>
 {
     let n = args.left().min(ARGUMENTS);
     let mut coordinates = [0.0; ARGUMENTS];
+    // A loop: by `fill_with` goal `returns-clause-place` stays open, for nothing is known of the arguments that its closure borrowed, once the slice is full.
     for x in &mut coordinates[..n] {
         *x = args.float();
     }
@@ -48,6 +49,7 @@ fn of_positions(args: &mut Args) -> Result<NVector, NoMean>
 {
     let n = (args.left() / 3).min(POSITIONS);
     let mut positions = [NVector::new(Vec3::ZERO); POSITIONS];
+    // A loop, as above.
     for p in &mut positions[..n] {
         *p = args.nvector();
     }
