@@ -10,7 +10,6 @@ use lib.ListN.{length, take, get_or}
 use Rattle.plain.specs.declared.targets.Held.{Held}
 use Rattle.plain.specs.declared.targets.Target.{Target}
 use Rattle.plain.specs.declared.targets.Targets.{Targets}
-use Rattle.targets.specs.declared.Sought.{Sought}
 use Rattle.targets.specs.declared.Change.{Change}
 use Rattle.targets.specs.declared.Change.TheVariants.{Stays, Removes, Sweeps}
 use Rattle.plain.specs.declared.state.Board.{Board}
@@ -29,8 +28,8 @@ use Rattle.board.specs.declared.glance.Setting.{Setting}
 use Rattle.board.specs.Glance.{setting_of}
 use Rattle.board.specs.Change.{name_of, Seeks, answer_by, entries_after, count_after, changed, Within, placing, RightChange}
 use Rattle.targets.proofs.Arrays.{absent, held_below}
-use Rattle.targets.proofs.Spots.{stands_at, belongs-at}
-use Rattle.targets.proofs.Slots.{stored_is, inserted-is, removed-is, removed-not, take-bared, counted_is, removed-fits, bared-fits, absent-fits}
+use Rattle.targets.proofs.Spots.{belongs-at}
+use Rattle.targets.proofs.Slots.{listed-is, found_is, stored_is, inserted-is, removed-is, removed-not, take-bared, counted_is, removed-fits, bared-fits, absent-fits}
 use Rattle.questions.proofs.Chains.{ask-fix, ask-ends}
 use Rattle.plain.proofs.Listed.{at-most-le, at-most-same}
 use Rattle.plain.proofs.Played.{heard-accepted}
@@ -113,19 +112,21 @@ solved-changes i a s (Some h) r e = rw e (solve-changes i a s h)
 
 -- ---- a call of the code
 
--- what is held at the place that a search gives is what is held under the identity
-pub held-found : (l : List Target) (x : ℕ) (s : Result ℕ ℕ) (f : Option Held) → s ≡ spot_from 0 x l
-    → MatchOption (result_ok s) (f ≡ None) (λ p. IsSomeAnd f (λ h. h ≡ (get_or l p absent).held)) → f ≡ find x l
-held-found l x (Ok p) (Some h) e m = rw m (sym (stands_at x l p (sym e)).looked)
-held-found l x (Ok p) None e m = elim m [ ]
-held-found l x (Err p) f e m = m ∙ sym (belongs-at x l p (sym e)).looked
-
--- the search is one of the plain board's targets
-pub sought-is : (ts : Targets) (n x y : ℕ) (r : Sought) → Seeks (take n ts.entries) x r → n ≡ at_most ts.count → x ≡ y → length ts.entries ≡ most_targets
-    → (r.spot ≡ spot_from 0 y (listed ts)) × (r.found ≡ find y (listed ts)) × (n ≡ length (listed ts))
-unfolding listed
-sought-is ts n x y r k e f full =
-    (k.spot_is ∙ rw (e, f), k.found_is ∙ rw (e, f), e ∙ counted_is ts.entries ts.count full)
+-- the search of the first n entries is one of the plain board's targets, and what is held at its place is what is held under the identity
+pub sought-is : (ts : Targets) (n x y : ℕ) (s : Result ℕ ℕ) (f : Option Held) → s ≡ spot_from 0 x (take n ts.entries)
+    → MatchOption (result_ok s) (f ≡ None) (λ p. IsSomeAnd f (λ h. h ≡ (get_or ts.entries p absent).held))
+    → n ≡ at_most ts.count → x ≡ y → length ts.entries ≡ most_targets
+    → Seeks (listed ts) y s f × (n ≡ length (listed ts))
+sought-is ts n x y s f q m e g full =
+    let list : take n ts.entries ≡ listed ts = listed-is ts n e in
+    let at : s ≡ spot_from 0 y (listed ts) = q ∙ rw (list, g) in
+    (record { spot_is = at; found_is = rw (← g) (held s f q m) }, unfold listed in (e ∙ counted_is ts.entries ts.count full))
+  where
+    held : (t : Result ℕ ℕ) (h : Option Held) → t ≡ spot_from 0 x (take n ts.entries)
+        → MatchOption (result_ok t) (h ≡ None) (λ p. IsSomeAnd h (λ k. k ≡ (get_or ts.entries p absent).held)) → h ≡ find x (listed ts)
+    held (Ok p) (Some k) i j = rw j (found_is ts x n full e (Ok p) i p refl)
+    held (Ok p) None i j = elim j [ ]
+    held (Err p) h i j = j ∙ sym (belongs-at x (take n ts.entries) p (sym i)).looked ∙ ap (find x) (listed-is ts n e)
 
 -- the questions put to the parts are those put to the plain board
 parts-answer : (p : Plain) (c : Call) → answer_by p.radius p.own p.track (find (name_of c) p.targets) (length p.targets) c ≡ answer p c

@@ -6,7 +6,6 @@ use Rattle.plain.specs.declared.line.Ends.{Ends}
 use Rattle.plain.specs.declared.targets.Held.{Held}
 use Rattle.plain.specs.declared.targets.Target.{Target}
 use Rattle.plain.specs.declared.targets.Targets.{Targets}
-use Rattle.targets.specs.declared.Sought.{Sought}
 use Rattle.targets.specs.declared.Change.{Change}
 use Rattle.targets.specs.declared.Change.TheVariants.{Stays, Stores, Inserts, Removes, Sweeps}
 use Rattle.plain.specs.declared.call.Call.{Call}
@@ -26,9 +25,9 @@ name_of (Track s e) = 0
 name_of (Solve i) = i
 
 -- a search of these targets: where the identity stands or would, and what is held under it
-pub record Seeks (l : List Target) (x : ℕ) (r : Sought) : Type 0 where
-  pub spot_is : r.spot ≡ spot_from 0 x l
-  pub found_is : r.found ≡ find x l
+pub record Seeks (l : List Target) (x : ℕ) (s : Result ℕ ℕ) (f : Option Held) : Type 0 where
+  pub spot_is : s ≡ spot_from 0 x l
+  pub found_is : f ≡ find x l
 
 -- the answer to a call of a board with these parts, where n targets stand and x is held under the identity that the call names
 abbrev pub answer_by : Float → Option Vehicle → Option Ends → Option Held → ℕ → Call → Answer

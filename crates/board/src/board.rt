@@ -14,7 +14,7 @@ use plain::targets::{Held, Target};
 use questions::call::{ends, vehicle};
 use questions::line::{raise, solve_line};
 use questions::{ends_asked, fix_asked, held_asked, identity_asked, radius_asked, room_asked, see};
-use targets::{Change, Sought, bared, closed, empty, inserted, least, seek};
+use targets::{Change, bared, closed, empty, inserted, least, seek};
 
 // A fresh board: only the radius. Refused where the radius is not finite and above zero.
 pub fn fresh(radius: f64) -> Answered
@@ -77,9 +77,8 @@ pub fn hear(board: Board, call: Call) -> Answered
     let targets = board.targets;
     let mut entries = targets.entries;
     let n = least(targets.count);
-    let sought = seek_in(&entries[..n], name_of(call));
-    let spot = sought.spot;
-    let found = sought.found;
+    let spot = seek(&entries[..n], name_of(call));
+    let found = spot.ok().map(|p| entries[p].held);
     let answer = answer_of(setting, found, call);
     if answer.is_err() {
         return Answered { board, answer };
@@ -177,15 +176,6 @@ fn total_after(answer: Answer, total: u32) -> u32
         Ok(Some(line)) => raise(total, line),
         _ => total,
     }
-}
-
-// Where an identity stands among these targets, or before which it would, and what is held under it.
-fn seek_in(among: &[Target], identity: u16) -> Sought
-    ensures { code.Seeks among.now identity result }
-{
-    let spot = seek(among, identity);
-    let found = spot.ok().map(|p| among[p].held);
-    Sought { spot, found }
 }
 
 // What an accepted call with this answer does to the targets, where the identity that it names stands there and this is held under it.

@@ -17,14 +17,6 @@ pub mod asking;
 // The last of a board's 64 places.
 const LAST: usize = MOST_TARGETS - 1;
 
-// What a search for an identity gives: the place where it stands, or as an error that where it would, and what is held under it.
-// A struct of two, no `Result<(usize, Held), usize>`: the questions take what is held alone, a report and a withdrawal the place alone, and each would map the other away.
-#[derive(Clone, Copy)]
-pub struct Sought {
-    pub spot: Result<usize, usize>,
-    pub found: Option<Held>,
-}
-
 // What a call does to the targets.
 #[derive(Clone, Copy)]
 pub enum Change {

@@ -1,7 +1,11 @@
 -- `hear` meets its contract. A refused call leaves the board; an accepted one leaves the array that its change makes, and that stands for
 -- the plain board's targets.
 use native.Mathlib.Omega.{arith}
-use Prim.Native.Nat.{◌<◌}
+use Prim.Native.Nat.{◌<◌, ◌≤◌}
+use Rattle.std.specs.Prelude.{Ok}
+use Rattle.std.proofs.iter.Serving.{serving}
+use Rattle.targets.specs.Slots.{spot_from}
+use Rattle.targets.proofs.Arrays.{held_below}
 use borrow.Author.Rules.{rules}
 use lib.ListN.{length}
 use mathlib.Core.Bool.{false≢true, not}
@@ -17,12 +21,22 @@ use Rattle.board.proofs.Changes.{sought-is, answered-of, ok-accepted, within-is,
 use Rattle.board.proofs.board.hear.Goals as goal
 use Rattle.board.proofs.board.hear.Goals.{in-Stays, in-Stores, in-Inserts, in-Removes, in-Sweeps}
 
+-- a place that the search gives is one of the entries
+pub map-found-requires : goal.map-found-requires
+unfolding spot_from
+map-found-requires c = λ p e.
+    let at : c.seek-spot.result ≡ Ok p = search rules in
+    let w = held_below c.name_of.result c.least-n.result c.args.board.targets.entries p (sym c.seek-spot.ensures.value ∙ at) in
+    let m : c.least-n.result ≤ most_targets = rw c.least-n.ensures (at-most-le c.args.board.targets.count) in
+    let full : length c.args.board.targets.entries ≡ most_targets = search rules in
+    grind (serving, arith, w, m, full)
+
 pub returns-then-is_err : goal.returns-then-is_err
-unfolding plain listed
+unfolding plain spot_from
 returns-then-is_err c =
     let a = c.args in
-    let s = sought-is a.board.targets _ _ _ _ c.seek_in-sought.ensures c.least-n.ensures c.name_of.ensures (search rules) in
-    let k = answered-of a.board a.call _ _ _ _ c.setting_of-setting.ensures c.answer_of-answer.ensures c.least-n.ensures s.1 s.2 in
+    let s = sought-is a.board.targets _ _ _ _ _ c.seek-spot.ensures.value (search rules) c.least-n.ensures c.name_of.ensures (search rules) in
+    let k = answered-of a.board a.call _ _ _ _ c.setting_of-setting.ensures c.answer_of-answer.ensures c.least-n.ensures s.0.found_is s.1 in
     record {
       answer_is = k;
       board_is = heard-refused a.board a.call _ k (ok-accepted c.answer_of-answer.result ∙ c.is_err.ensures.negation ∙ ap not c.if-is_err.true);
@@ -31,13 +45,12 @@ returns-then-is_err c =
 
 -- a target that takes the place of another takes that of one of the entries
 place-below : (c : goal.In-Stores) → c.in-Stores.p < most_targets
-unfolding Within
+unfolding Within spot_from
 place-below c =
     let a = c.args in
-    let k = c.seek_in-sought.ensures in
     let full : length a.board.targets.entries ≡ most_targets = search rules in
-    let s = sought-is a.board.targets _ _ _ _ k c.least-n.ensures c.name_of.ensures full in
-    let w = within-is a.board a.call _ _ _ _ full s.0 s.1 c.change_of-change.ensures in
+    let s = sought-is a.board.targets _ _ _ _ _ c.seek-spot.ensures.value (search rules) c.least-n.ensures c.name_of.ensures full in
+    let w = within-is a.board a.call _ _ _ _ full s.0.spot_is s.0.found_is c.change_of-change.ensures in
     let v = subst (λ (r : Change). Within r (at_most a.board.targets.count)) c.in-Stores.is w in
     omega (arith, v, at-most-le a.board.targets.count)
 
@@ -48,14 +61,13 @@ pub bounds-entries-p : goal.bounds-entries-p
 bounds-entries-p c = place-below c
 
 pub returns : goal.returns
-unfolding entries_after board_of setting_of
+unfolding entries_after board_of setting_of spot_from
 returns c =
     let a = c.args in
-    let k = c.seek_in-sought.ensures in
     let full : length a.board.targets.entries ≡ most_targets = search rules in
     let n = c.least-n.ensures in
-    let s = sought-is a.board.targets _ _ _ _ k n c.name_of.ensures full in
-    let q = answered-of a.board a.call _ _ _ _ c.setting_of-setting.ensures c.answer_of-answer.ensures c.least-n.ensures s.1 s.2 in
+    let s = sought-is a.board.targets _ _ _ _ _ c.seek-spot.ensures.value (search rules) n c.name_of.ensures full in
+    let q = answered-of a.board a.call _ _ _ _ c.setting_of-setting.ensures c.answer_of-answer.ensures c.least-n.ensures s.0.found_is s.1 in
     let yes' = ok-accepted c.answer_of-answer.result ∙ c.is_err.ensures.negation ∙ ap not c.if-is_err.false in
     -- each arm leaves what its change makes of the entries
     let arms : (c.match-change.change ≡ c.change_of-change.result) × (c.match-change.entries ≡ entries_after c.change_of-change.result a.board.targets.entries) =
@@ -70,6 +82,6 @@ returns c =
       answer_is = q;
       board_is =
           rw (c.board_of.ensures, c.total_after.ensures, c.track_after.ensures, c.own_after.ensures, c.setting_of-setting.ensures)
-          (changed-is a.board a.call _ _ _ _ full s.0 s.1 c.change_of-change.ensures _ _ q yes' arms.1 (c.count_after.ensures ∙ rw (arms.0, n)));
+          (changed-is a.board a.call _ _ _ _ full s.0.spot_is s.0.found_is c.change_of-change.ensures _ _ q yes' arms.1 (c.count_after.ensures ∙ rw (arms.0, n)));
       refused_keeps = λ e. absurd (false≢true (sym e ∙ yes'));
     }
