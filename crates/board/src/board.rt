@@ -85,11 +85,11 @@ pub fn hear(board: Board, call: Call) -> Answered
     }
     let change = change_of(call, answer, spot, found);
     match change {
-        Change::Stays => {}
-        Change::Stores(p, t) => entries[p] = t,
-        Change::Inserts(p, t) => entries = inserted(entries, p, t),
-        Change::Removes(p) => entries = closed(entries, p),
-        Change::Sweeps => entries = bared(entries),
+        None => {}
+        Some(Change::Stores(p, t)) => entries[p] = t,
+        Some(Change::Inserts(p, t)) => entries = inserted(entries, p, t),
+        Some(Change::Removes(p)) => entries = closed(entries, p),
+        Some(Change::Sweeps) => entries = bared(entries),
     }
     let after = Setting {
         radius: setting.radius,
@@ -178,8 +178,13 @@ fn total_after(answer: Answer, total: u32) -> u32
     }
 }
 
-// What an accepted call with this answer does to the targets, where the identity that it names stands there and this is held under it.
-fn change_of(call: Call, answer: Answer, spot: Result<usize, usize>, found: Option<Held>) -> Change
+// What an accepted call with this answer changes of the targets, where the identity that it names stands there and this is held under it.
+fn change_of(
+    call: Call,
+    answer: Answer,
+    spot: Result<usize, usize>,
+    found: Option<Held>,
+) -> Option<Change>
     ensures { code.RightChange call answer spot found result }
 {
     match call {
@@ -188,11 +193,11 @@ fn change_of(call: Call, answer: Answer, spot: Result<usize, usize>, found: Opti
                 report: vehicle(fix),
                 line: None,
             };
-            placing(spot, Target { identity, held })
+            Some(placing(spot, Target { identity, held }))
         }
-        Call::Withdraw(_) => spot.map_or(Change::Stays, |p| Change::Removes(p)),
-        Call::OwnShip(_) | Call::Track(_, _) => Change::Sweeps,
-        Call::Solve(identity) => found.map_or(Change::Stays, |held| {
+        Call::Withdraw(_) => spot.ok().map(|p| Change::Removes(p)),
+        Call::OwnShip(_) | Call::Track(_, _) => Some(Change::Sweeps),
+        Call::Solve(identity) => found.map(|held| {
             let held = with_line(answer, held);
             placing(spot, Target { identity, held })
         }),
@@ -210,14 +215,14 @@ fn placing(spot: Result<usize, usize>, t: Target) -> Change
 }
 
 // How many targets stand after a change, where n stood.
-fn count_after(change: Change, n: usize) -> usize
+fn count_after(change: Option<Change>, n: usize) -> usize
     requires { n ≤ most_targets }
     ensures { result ≡ code.count_after change n }
 {
     match change {
-        Change::Inserts(_, _) => n + 1,
-        Change::Removes(_) => n.saturating_sub(1),
-        Change::Stays | Change::Stores(_, _) | Change::Sweeps => n,
+        Some(Change::Inserts(_, _)) => n + 1,
+        Some(Change::Removes(_)) => n.saturating_sub(1),
+        None | Some(Change::Stores(_, _) | Change::Sweeps) => n,
     }
 }
 
