@@ -49,7 +49,7 @@ pub fn pick(board: Board) -> Result<u16, Refusal>
 }
 
 // The least meeting time of these targets, and the first of them that has it.
-// A `reduce`, no `min_by_key` of the iterator: that one's clause in std tells less than a fold.
+// A `reduce` by the lesser of two, no `min_by_key` of the iterator: what that one ensures is no fold, and thirty lines of proof more would lie between.
 fn soonest(targets: &[Target]) -> Option<Best>
     ensures { result ≡ fold spec.better None targets.now }
 {

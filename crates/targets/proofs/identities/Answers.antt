@@ -18,7 +18,8 @@ returns c =
     let n = c.least-n.result in
     let full : length es ≡ most_targets = search rules in
     let small : n ≤ most_targets = rw c.least-n.ensures (at-most-le c.args.targets.count) in
-    let taken : length (take n es) ≡ n = length-take-le n es (omega (arith, full, small)) in
+    let inside : n ≤ length es = omega (arith, full, small) in
+    let taken : length (take n es) ≡ n = length-take-le n es inside in
     let zeros : List ℕ = replicate most_targets 0 in
     let zs : List ℕ = map identity_of (take n es) ++ drop n zeros in
     let none : length zeros ≡ most_targets = length-replicate {A = ℕ} most_targets 0 in
@@ -26,8 +27,8 @@ returns c =
       rw (← c.least-n.ensures)
           (made _ zs 0 _ c.from_fn.result long
           (λ i y q k. elim (cases_lt i n) [
-            | inl l ↦ (search rules, (let at : y ≡ (get_or es i absent).identity = search rules in at) ∙ mixed-below identity_of es (drop n zeros) n i absent (omega (arith, full, small)) l)
-            | inr l ↦ (search rules, (let at : y ≡ 0 = search rules in at) ∙ blank-past identity_of es most_targets n i 0 (omega (arith, full, small)) l)
+            | inl l ↦ (search rules, (let at : y ≡ (get_or es i absent).identity = search rules in at) ∙ mixed-below identity_of es (drop n zeros) n i absent inside l)
+            | inr l ↦ (search rules, (let at : y ≡ 0 = search rules in at) ∙ blank-past identity_of es most_targets n i 0 inside l)
           ])
           c.from_fn.ensures.items),
       full,

@@ -11,7 +11,7 @@ use lib.ListN.{length}
 use mathlib.Core.Bool.{false≢true, not}
 use mathlib.Core.Path.{◌≡◌, refl, sym, ap, subst, ◌∙◌}
 use Rattle.targets.specs.declared.Change.{Change}
-use Rattle.targets.specs.declared.Change.TheVariants.{Stores, Inserts, Removes, Sweeps}
+use Rattle.targets.specs.declared.Change.TheVariants.{Stores}
 use Rattle.plain.specs.Targets.{most_targets, at_most}
 use Rattle.plain.specs.Code.{plain}
 use Rattle.board.specs.Change.{entries_after, Within}
@@ -75,10 +75,10 @@ returns c =
     let arms : c.match-change.entries ≡ entries_after c.change_of-change.result a.board.targets.entries =
     elim c.match-change.branch [
       | in-None w ↦ rw (w.entries-is, w.in-None.is) refl
-      | in-Some-Stores w ↦ let told : w.in-Some-Stores.field-0 ≡ Stores w.in-Some-Stores.p w.in-Some-Stores.t = rw w.in-Some-Stores.is at w.in-Some-Stores.field-0-is in rw (w.entries-is, w.in-Some-Stores.is, told) refl
-      | in-Some-Inserts w ↦ let told : w.in-Some-Inserts.field-0 ≡ Inserts w.in-Some-Inserts.p w.in-Some-Inserts.t = rw w.in-Some-Inserts.is at w.in-Some-Inserts.field-0-is in rw (w.entries-is, w.inserted-entries.ensures, w.in-Some-Inserts.is, told) refl
-      | in-Some-Removes w ↦ let told : w.in-Some-Removes.field-0 ≡ Removes w.in-Some-Removes.p = rw w.in-Some-Removes.is at w.in-Some-Removes.field-0-is in rw (w.entries-is, w.closed-entries.ensures, w.in-Some-Removes.is, told) refl
-      | in-Some-Sweeps w ↦ let told : w.in-Some-Sweeps.field-0 ≡ Sweeps = rw w.in-Some-Sweeps.is at w.in-Some-Sweeps.field-0-is in rw (w.entries-is, w.bared-entries.ensures, w.in-Some-Sweeps.is, told) refl
+      | in-Some-Stores w ↦ let i = w.in-Some-Stores in rw (w.entries-is, i.is, rw i.is at i.field-0-is) refl
+      | in-Some-Inserts w ↦ let i = w.in-Some-Inserts in rw (w.entries-is, w.inserted-entries.ensures, i.is, rw i.is at i.field-0-is) refl
+      | in-Some-Removes w ↦ let i = w.in-Some-Removes in rw (w.entries-is, w.closed-entries.ensures, i.is, rw i.is at i.field-0-is) refl
+      | in-Some-Sweeps w ↦ let i = w.in-Some-Sweeps in rw (w.entries-is, w.bared-entries.ensures, i.is, rw i.is at i.field-0-is) refl
     ] in
     record {
       answer_is = q;
