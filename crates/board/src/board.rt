@@ -14,7 +14,7 @@ use plain::targets::{Held, Target};
 use questions::call::{ends, vehicle};
 use questions::line::{raise, solve_line};
 use questions::{ends_asked, fix_asked, held_asked, identity_asked, radius_asked, room_asked, see};
-use targets::{Change, Sought, bared, closed, empty, inserted, least, seek};
+use targets::{Change, bared, closed, empty, inserted, least, seek};
 
 // A fresh board: only the radius. Refused where the radius is not finite and above zero.
 pub fn fresh(radius: f64) -> Answered
@@ -77,20 +77,19 @@ pub fn hear(board: Board, call: Call) -> Answered
     let targets = board.targets;
     let mut entries = targets.entries;
     let n = least(targets.count);
-    let sought = seek_in(&entries[..n], name_of(call));
-    let spot = sought.spot;
-    let found = sought.found;
+    let spot = seek(&entries[..n], name_of(call));
+    let found = spot.ok().map(|p| entries[p].held);
     let answer = answer_of(setting, found, call);
     if answer.is_err() {
         return Answered { board, answer };
     }
     let change = change_of(call, answer, spot, found);
     match change {
-        Change::Stays => {}
-        Change::Stores(p, t) => entries[p] = t,
-        Change::Inserts(p, t) => entries = inserted(entries, p, t),
-        Change::Removes(p) => entries = closed(entries, p),
-        Change::Sweeps => entries = bared(entries),
+        None => {}
+        Some(Change::Stores(p, t)) => entries[p] = t,
+        Some(Change::Inserts(p, t)) => entries = inserted(entries, p, t),
+        Some(Change::Removes(p)) => entries = closed(entries, p),
+        Some(Change::Sweeps) => entries = bared(entries),
     }
     let after = Setting {
         radius: setting.radius,
@@ -179,17 +178,13 @@ fn total_after(answer: Answer, total: u32) -> u32
     }
 }
 
-// Where an identity stands among these targets, or before which it would, and what is held under it.
-fn seek_in(among: &[Target], identity: u16) -> Sought
-    ensures { code.Seeks among.now identity result }
-{
-    let spot = seek(among, identity);
-    let found = spot.ok().map(|p| among[p].held);
-    Sought { spot, found }
-}
-
-// What an accepted call with this answer does to the targets, where the identity that it names stands there and this is held under it.
-fn change_of(call: Call, answer: Answer, spot: Result<usize, usize>, found: Option<Held>) -> Change
+// What an accepted call with this answer changes of the targets, where the identity that it names stands there and this is held under it.
+fn change_of(
+    call: Call,
+    answer: Answer,
+    spot: Result<usize, usize>,
+    found: Option<Held>,
+) -> Option<Change>
     ensures { code.RightChange call answer spot found result }
 {
     match call {
@@ -198,11 +193,11 @@ fn change_of(call: Call, answer: Answer, spot: Result<usize, usize>, found: Opti
                 report: vehicle(fix),
                 line: None,
             };
-            placing(spot, Target { identity, held })
+            Some(placing(spot, Target { identity, held }))
         }
-        Call::Withdraw(_) => spot.map_or(Change::Stays, |p| Change::Removes(p)),
-        Call::OwnShip(_) | Call::Track(_, _) => Change::Sweeps,
-        Call::Solve(identity) => found.map_or(Change::Stays, |held| {
+        Call::Withdraw(_) => spot.ok().map(|p| Change::Removes(p)),
+        Call::OwnShip(_) | Call::Track(_, _) => Some(Change::Sweeps),
+        Call::Solve(identity) => found.map(|held| {
             let held = with_line(answer, held);
             placing(spot, Target { identity, held })
         }),
@@ -220,14 +215,14 @@ fn placing(spot: Result<usize, usize>, t: Target) -> Change
 }
 
 // How many targets stand after a change, where n stood.
-fn count_after(change: Change, n: usize) -> usize
+fn count_after(change: Option<Change>, n: usize) -> usize
     requires { n ≤ most_targets }
     ensures { result ≡ code.count_after change n }
 {
     match change {
-        Change::Inserts(_, _) => n + 1,
-        Change::Removes(_) => n.saturating_sub(1),
-        Change::Stays | Change::Stores(_, _) | Change::Sweeps => n,
+        Some(Change::Inserts(_, _)) => n + 1,
+        Some(Change::Removes(_)) => n.saturating_sub(1),
+        None | Some(Change::Stores(_, _) | Change::Sweeps) => n,
     }
 }
 

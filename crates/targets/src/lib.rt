@@ -10,6 +10,7 @@ use jord::positions::NVector;
 use jord::speed::Speed;
 use jord::vehicle::Vehicle;
 use plain::targets::{Held, MOST_TARGETS, Target, Targets};
+use std::array;
 use vectors::vec3::Vec3;
 
 pub mod asking;
@@ -17,19 +18,9 @@ pub mod asking;
 // The last of a board's 64 places.
 const LAST: usize = MOST_TARGETS - 1;
 
-// What a search for an identity gives: the place where it stands, or as an error that where it would, and what is held under it.
-// A struct of two, no `Result<(usize, Held), usize>`: the questions take what is held alone, a report and a withdrawal the place alone, and each would map the other away.
-#[derive(Clone, Copy)]
-pub struct Sought {
-    pub spot: Result<usize, usize>,
-    pub found: Option<Held>,
-}
-
-// What a call does to the targets.
+// What a call does to the targets, where it changes them.
 #[derive(Clone, Copy)]
 pub enum Change {
-    // The targets stay as they are.
-    Stays,
     // This target takes the place of entry p.
     Stores(usize, Target),
     // This target comes before entry p.
@@ -63,16 +54,13 @@ pub fn least(count: usize) -> usize
     count.min(MOST_TARGETS)
 }
 
-// The identities of the targets that stand, then zeros.
+// The identities of the targets that stand, then zeros. Nothing here calls it: it stands for callers of the crate.
 pub fn identities(targets: Targets) -> [u16; MOST_TARGETS]
     ensures { (result ≡ spec.identities targets.entries (at_most targets.count)) × (length targets.entries ≡ most_targets) }
 {
+    let entries = targets.entries;
     let n = least(targets.count);
-    let mut out = [0u16; MOST_TARGETS];
-    for (i, t) in targets.entries[..n].iter().enumerate() {
-        out[i] = t.identity;
-    }
-    out
+    array::from_fn(|i| if i < n { entries[i].identity } else { 0 })
 }
 
 // What has an identity.
