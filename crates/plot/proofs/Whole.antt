@@ -10,6 +10,7 @@ use Rattle.std.proofs.KnownBytes.{Appends-nil, Appends-trans, Consumes-nil, Cons
 use Rattle.frames.specs.declared.stream.Stream.{Stream}
 use Rattle.frames.specs.Stream.{Model, fresh, fed_state, fed_text, end_text, view}
 use Rattle.frames.specs.Whole.{replies}
+use Rattle.plot.specs.Turn.{Poured}
 use Rattle.frames.proofs.Pieces.{state-append, text-append, whole-text}
 
 -- of an input that had `all` and has `left`, the stream took what is missing, and a writer that held `old` and holds `new` was given the answers
@@ -23,16 +24,24 @@ pub replied-none : (all old : Option (List ℕ)) (s : Stream) → view s ≡ fre
 unfolding fed_state fed_text
 replied-none all old s e = record { read = []; state = e; consumed = Consumes-nil all; written = Appends-nil old }
 
--- a read that gave n bytes, and one that gave none
+-- a read that gave n bytes
 gave : (got : Result ℕ Error) (n : ℕ) → way_of got ≡ Ok (Some n) → got ≡ Ok n
 gave (Ok zero) n e = cc
 gave (Ok (suc k)) n e = cc
 gave (Err x) n e = cc
 
-gave-none : (got : Result ℕ Error) → way_of got ≡ Ok None → got ≡ Ok 0
-gave-none (Ok zero) e = refl
-gave-none (Ok (suc k)) e = cc
-gave-none (Err x) e = cc
+-- it ended: nothing came
+pub turning-ended : (got : Result ℕ Error) → way_of got ≡ Ok None → got ≡ Ok 0
+turning-ended (Ok zero) e = refl
+turning-ended (Ok (suc k)) e = cc
+turning-ended (Err x) e = cc
+
+-- it goes on: what came is taken
+pub turning-on : (s r : Stream) (got : Result ℕ Error) (piece : List ℕ) (n m : ℕ) → way_of got ≡ Ok (Some n) → m ≡ min n (length piece)
+    → Poured s (take m piece) (Ok r) → (got ≡ Ok n) × (take m piece ≡ take n piece) × (view r ≡ fed_state (view s) (take n piece))
+turning-on s r got piece n m g k p =
+    let e : take m piece ≡ take n piece = ap (λ (j : ℕ). take j piece) k ∙ take_min n piece in
+    (gave got n g, e, p ∙ ap (λ (l : List ℕ). fed_state (view s) l) e)
 
 module _ {all left old new : Option (List ℕ)} {s : Stream} (left' : Option (List ℕ)) (got : Result ℕ Error) (piece : List ℕ) (p : Replied all left old new s)
     (b : ReadConsumes left left' got piece) where
@@ -41,9 +50,10 @@ module _ {all left old new : Option (List ℕ)} {s : Stream} (left' : Option (Li
       → view r ≡ fed_state (view s) (take m piece) → Appends new new' (fed_text (view s) (take m piece)) → Replied all left' old new' r
   replied-on new' r n m g k f w =
       let came : List ℕ = take m piece in
-      let e : came ≡ take n piece = ap (λ (j : ℕ). take j piece) k ∙ take_min n piece in
+      let on = turning-on s r got piece n m g k f in
+      let e : came ≡ take n piece = on.1 in
       let c : Consumes left left' came =
-      subst (λ (l : List ℕ). Consumes left left' l) (sym e) (subst (λ (x : Result ℕ Error). ReadConsumes left left' x piece) (gave got n g) b).0 in
+      subst (λ (l : List ℕ). Consumes left left' l) (sym e) (subst (λ (x : Result ℕ Error). ReadConsumes left left' x piece) on.0 b).0 in
       let v : Appends new new' (fed_text (fed_state fresh p.read) came) = subst (λ (m : Model). Appends new new' (fed_text m came)) p.state w in
       record {
         read = p.read ++ came;
@@ -58,7 +68,7 @@ module _ {all left old new : Option (List ℕ)} {s : Stream} (left' : Option (Li
   pub replied-ended : (last : Option (List ℕ)) → way_of got ≡ Ok None → 0 < length piece → Appends new last (end_text (view s))
       → IfSome all (λ (xs : List ℕ). Appends old last (replies xs))
   replied-ended last g h w =
-      let c = subst (λ (x : Result ℕ Error). ReadConsumes left left' x piece) (gave-none got g) b in
+      let c = subst (λ (x : Result ℕ Error). ReadConsumes left left' x piece) (turning-ended got g) b in
       let v : Appends new last (end_text (fed_state fresh p.read)) = subst (λ (m : Model). Appends new last (end_text m)) p.state w in
       Consumes-whole all left' p.read (λ (xs : List ℕ). Appends old last (replies xs))
       (subst (λ (l : List ℕ). Consumes all left' l) (append-nil p.read) (Consumes-trans all left left' p.read [] p.consumed c.0)) (c.1 refl h)
