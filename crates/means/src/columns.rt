@@ -24,7 +24,8 @@ impl Run for InTurn<'_> {
     }
 }
 
-// The first n of m positions: all x, then all y, then all z. One slice and two lengths, as `mean_of_columns`, which is public, is lent them: three slices would carry m three times.
+// The first n of m positions: all x, then all y, then all z.
+// One slice and two lengths, as `mean_of_columns`, which is public, is lent them: three slices would carry m three times.
 #[derive(Clone, Copy)]
 struct InColumns<'a> {
     cs: &'a [f64],

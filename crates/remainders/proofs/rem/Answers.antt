@@ -28,7 +28,9 @@ pub returns-then-is_infinite : goal.returns-then-is_infinite
 returns-then-is_infinite c = nan_constant ∙ sym (rem-of-infinity c.args.x c.args.y (sym c.is_infinite.ensures.value ∙ c.if-is_infinite.true))
 
 pub returns-then-y : goal.returns-then-y
-returns-then-y c = nan_constant ∙ sym (rem-by-zero c.args.x c.args.y (finite-first c.args.x c.is_nan.ensures.value c.is_infinite.ensures.value c.if-is_nan.false c.if-is_infinite.false) c.if-y.true)
+returns-then-y c =
+    nan_constant ∙ sym (rem-by-zero c.args.x c.args.y (finite-first c.args.x c.is_nan.ensures.value c.is_infinite.ensures.value c.if-is_nan.false c.if-is_infinite.false)
+    c.if-y.true)
 
 pub returns-then-p-q : goal.returns-then-p-q
 returns-then-p-q c =
@@ -38,8 +40,8 @@ returns-then-p-q c =
 -- what the tests leave
 divides : (c : After-unpack-2) → Divides c.args.x c.args.y
 divides c =
-    rem-of-larger c.args.x c.args.y (held c.args.x c.well_formed.0.1) (held c.args.y c.well_formed.1.0.1) (finite-first c.args.x c.is_nan.ensures.value c.is_infinite.ensures.value c.if-is_nan.false c.if-is_infinite.false)
-    c.if-y.false c.if-p-q.false
+    rem-of-larger c.args.x c.args.y (held c.args.x c.well_formed.0.1) (held c.args.y c.well_formed.1.0.1)
+    (finite-first c.args.x c.is_nan.ensures.value c.is_infinite.ensures.value c.if-is_nan.false c.if-is_infinite.false) c.if-y.false c.if-p-q.false
 
 pub rem_of_unpacked-r-requires : goal.rem_of_unpacked-r-requires
 rem_of_unpacked-r-requires c = let d = divides c in rw (c.unpack-2.ensures.digits, c.unpack-2.ensures.place, c.unpack.ensures.place) (d.divisor, d.order, d.under)
