@@ -43,6 +43,26 @@ impl OutOfRange {
     }
 }
 
+// Document 01's number of a conversion, 0 where there is a duration.
+pub fn number_of(converted: Result<u64, OutOfRange>) -> u8
+    ensures { result ≡ spec.number_of converted }
+{
+    match converted {
+        Ok(_) => 0,
+        Err(e) => e.number(),
+    }
+}
+
+// The duration in nanoseconds, 0 where there is none.
+pub fn nanoseconds_of(converted: Result<u64, OutOfRange>) -> u64
+    ensures { result ≡ spec.nanoseconds_of converted }
+{
+    match converted {
+        Ok(n) => n,
+        Err(_) => 0,
+    }
+}
+
 // The duration of t seconds: the exact value times 10^9, nearest, ties to even.
 pub fn from_seconds(t: f64) -> Result<u64, OutOfRange>
     ensures { result ≡ spec.from_seconds t }
