@@ -30,6 +30,16 @@ impl NoMean {
     }
 }
 
+// Document 01's number of a mean, 0 where there is one.
+pub fn number_of(mean: Result<NVector, NoMean>) -> u8
+    ensures { result ≡ spec.number_of mean }
+{
+    match mean {
+        Ok(_) => 0,
+        Err(e) => e.number(),
+    }
+}
+
 // The mean of positions, the unit vector along their sum; one is its own mean. Empty (16) of none, Antipodal (17) where one is the negation of another or of itself.
 // Their coordinates are handed over, three to a position; one or two left over at the end count for nothing.
 pub fn mean_position(cs: &[f64]) -> Result<NVector, NoMean>

@@ -68,3 +68,23 @@ impl Refusal {
 
 // What a board answers to a call: done, with the line of a solve, or refused.
 pub type Answer = Result<Option<Line>, Refusal>;
+
+// Document 01's number of an answer, 0 where it is done.
+pub fn answer_number(answer: Answer) -> u8
+    ensures { result ≡ spec.answer_number answer }
+{
+    match answer {
+        Ok(_) => 0,
+        Err(refusal) => refusal.number(),
+    }
+}
+
+// The line that an answer hands out, or none.
+pub fn answer_line(answer: Answer) -> Option<Line>
+    ensures { result ≡ spec.answer_line answer }
+{
+    match answer {
+        Ok(line) => line,
+        Err(_) => None,
+    }
+}

@@ -23,7 +23,7 @@ pub mod lent {
 }
 
 pub mod mean {
-    pub use means::{NoMean, mean_position, triangle_mean_position};
+    pub use means::{NoMean, mean_position, number_of, triangle_mean_position};
 }
 
 pub mod minor_arc {
