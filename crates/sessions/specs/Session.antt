@@ -1,7 +1,7 @@
 -- A session: a plain board, or none yet. What one frame makes of it, and what it is answered. Definitions only.
 use Rattle.std.specs.Prelude.{ℕ, ◌≡◌, MatchOption, option_map, Option, Some, None, Result, Ok, Err}
 use Rattle.plain.specs.declared.call.Refusal.{Refusal}
-use Rattle.plain.specs.Asking.{mean, pick}
+use Rattle.plain.specs.Asking.{mean, pick, choice_identity}
 use Rattle.plain.specs.Board.{Plain, fresh, begins, answer, after}
 use Rattle.plain.specs.Call.{Answer}
 use Rattle.plain.specs.Code.{plain}
@@ -44,7 +44,7 @@ mean_told (Err e) = reply.Refused kind.Mean (reason.NoMean e)
 
 -- "07 identity"
 unfoldable pub pick_told : Result ℕ Refusal → Reply Kind Reason
-pick_told (Ok i) = reply.Pick i
+pick_told (Ok i) = reply.Pick (choice_identity (Ok i))
 pick_told (Err q) = reply.Refused kind.Pick (reason.Refusal q)
 
 -- ---- the reply of a session

@@ -1,5 +1,6 @@
 // A session: a board or none yet, and what a frame makes of it.
 ghost use Rattle.std.specs.Prelude.{◌≡◌, None, Some};
+ghost use Rattle.sessions.specs.Printed as printed;
 ghost use Rattle.sessions.specs.Session as spec;
 
 use board::board::{fresh, hear};
@@ -47,7 +48,8 @@ pub fn kind_of(call: Call) -> Kind
 
 // The reply to a call of this kind, from the board's answer.
 pub fn told<K: Copy>(kind: K, answer: Answer) -> Reply<K>
-    ensures { result ≡ spec.told kind answer }
+    ensures value { result ≡ spec.told kind answer }
+    ensures printed { printed.CallPrinted answer result }
 {
     match answer {
         Ok(None) => Reply::Done(kind),
@@ -92,7 +94,8 @@ fn tell(s: Session, call: Call) -> Stepped
 
 // The reply to a mean. `pick_told` stands beside it: one function for both would take the kind, the answer's reply and the reason's variant, which is all that either arm holds.
 fn mean_told(m: Result<NVector, NoMean>) -> Reply
-    ensures { result ≡ spec.mean_told m }
+    ensures value { result ≡ spec.mean_told m }
+    ensures printed { printed.MeanPrinted m result }
 {
     match m {
         Ok(p) => Reply::Mean(p.as_vec3()),
@@ -102,7 +105,8 @@ fn mean_told(m: Result<NVector, NoMean>) -> Reply
 
 // The reply to a pick.
 fn pick_told(choice: Result<u16, Refusal>) -> Reply
-    ensures { result ≡ spec.pick_told choice }
+    ensures value { result ≡ spec.pick_told choice }
+    ensures printed { printed.PickPrinted choice result }
 {
     match choice {
         Ok(identity) => Reply::Pick(identity),

@@ -23,7 +23,7 @@ two kind number = digits 2 kind ++ digits 2 number
 
 -- document 01's number of a refusal
 abbrev pub reason_number : Reason → ℕ
-reason_number (reason.Refusal q) = call.number_of q
+reason_number (reason.Refusal q) = call.answer_number (Err q)
 reason_number (reason.NoMean e) = means.number_of (Err e)
 
 -- "Floats are 16 digits of their bits, high digit first"; "NaN is 7ff8000000000000"

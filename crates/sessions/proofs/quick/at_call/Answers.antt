@@ -25,7 +25,7 @@ pub returns-in-Stays : goal.returns-in-Stays
 unfolding hinted
 returns-in-Stays g c =
     let told = c.in_ok-hint.was ∙ ap (λ (h : Hint). Some h) c.in-Stays.is in
-    ap (λ (y : Reply Kind Reason). Some (Stays y)) c.told.ensures ∙ call-goes _ _ _ c.in-Some.is c.kind_of-kind.ensures c.glance.ensures.value told
+    ap (λ (y : Reply Kind Reason). Some (Stays y)) c.told.ensures.value ∙ call-goes _ _ _ c.in-Some.is c.kind_of-kind.ensures c.glance.ensures.value told
 
 pub returns-in-Puts : goal.returns-in-Puts
 unfolding hinted

@@ -3,7 +3,7 @@ use Rattle.sessions.proofs.Sessions.{started, stayed}
 use Rattle.sessions.proofs.session.start.Goals as goal
 
 pub returns-in-Ok : goal.returns-in-Ok
-returns-in-Ok c = started c.told-reply.ensures c.fresh-made.ensures c.in-Ok.is
+returns-in-Ok c = started c.told-reply.ensures.value c.fresh-made.ensures c.in-Ok.is
 
 pub returns-in-Err : goal.returns-in-Err
-returns-in-Err c = stayed c.told-reply.ensures c.fresh-made.ensures c.in-Err.is
+returns-in-Err c = stayed c.told-reply.ensures.value c.fresh-made.ensures c.in-Err.is

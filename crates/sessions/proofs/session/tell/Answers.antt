@@ -8,4 +8,4 @@ returns-in-None c = not-heard _ _ c.in-None.is
 pub returns-in-Some : goal.returns-in-Some
 returns-in-Some c =
     let h = c.hear-answer.ensures in
-    heard _ _ c.in-Some.is h.answer_is h.board_is c.kind_of.ensures c.told-reply.ensures
+    heard _ _ c.in-Some.is h.answer_is h.board_is c.kind_of.ensures c.told-reply.ensures.value
