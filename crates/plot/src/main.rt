@@ -1,11 +1,12 @@
 // Reads frames on standard input and writes the reply to each on standard output, until the input ends or a read or a write fails.
 #![tactic(auto)]
 
-ghost use Rattle.std.specs.Prelude.{◌≤◌, IfSome, OnOk, length};
-ghost use Rattle.std.specs.Io.KnownBytes.{Appends};
+ghost use Rattle.std.specs.Prelude.{◌≡◌, ◌≤◌, false, IfSome, OnOk, length, take};
+ghost use Rattle.std.specs.Io.KnownBytes.{Appends, Keeps};
+ghost use Rattle.console.specs.Way.{way_of};
 ghost use Rattle.frames.specs.Stream.{end_text, fed_text, room, view};
 ghost use Rattle.frames.specs.Whole.{replies};
-ghost use Rattle.plot.specs.Turn.{Poured};
+ghost use Rattle.plot.specs.Turn.{count_of, goes_on, Poured, Turning};
 
 use console::Failure;
 use frames::stream::Stream;
@@ -40,6 +41,28 @@ fn pour<W: Write>(out: &mut W, s: Stream, xs: &[u8], page: &mut [u8]) -> Result<
     Ok(stream)
 }
 
+// The answer to a read that gave so many bytes, or failed: how many came, or none where the input has ended. Where none came the stream stays.
+// The stream is lent, for a board is long.
+fn answer<W: Write>(
+    out: &mut W,
+    s: &mut Stream,
+    got: io::Result<usize>,
+    piece: &[u8],
+    page: &mut [u8],
+) -> Result<Option<usize>, Failure>
+    requires { room ≤ length page.old }
+    ensures turning { Turning s.old got piece.now s.new result }
+    ensures written { OnOk result (Appends (W.contents out.old) (W.contents out.new) (fed_text (view s.old) (take (count_of got (length piece.now)) piece.now))) }
+    ensures silent { goes_on (way_of got) ≡ false → Keeps (W.contents out.old) (W.contents out.new) }
+{
+    let Some(n) = console::way_of(got)? else {
+        return Ok(None);
+    };
+    let came = n.min(piece.len());
+    *s = pour(out, *s, &piece[..came], page)?;
+    Ok(Some(n))
+}
+
 // The end of the input: the reply to a line that has begun.
 fn last<W: Write>(out: &mut W, s: Stream) -> Result<(), Failure>
     ensures { OnOk result (Appends (W.contents out.old) (W.contents out.new) (end_text (view s))) }
@@ -57,11 +80,10 @@ fn run<R: Read, W: Write>(input: &mut R, out: &mut W) -> Result<(), Failure>
     let mut piece = [0u8; PIECE];
     let mut page = [0u8; PAGE];
     for _ in 0..u64::MAX {
-        let Some(n) = console::way_of(input.read(&mut piece))? else {
+        let got = input.read(&mut piece);
+        let Some(_) = answer(out, &mut stream, got, &piece, &mut page)? else {
             return last(out, stream);
         };
-        let came = n.min(PIECE);
-        stream = pour(out, stream, &piece[..came], &mut page)?;
     }
     Err(Failure::Unfinished)
 }
