@@ -38,8 +38,8 @@ turning-on s (Ok (suc k)) piece t r h n e =
 turning-on s (Err x) piece t r h n e = let w = (h.stays refl).1 in let z : ⊥ = cc in absurd z
 
 -- where nothing came there is nothing to answer
-pub nothing-said : (a : Option (List ℕ)) (m : Model) (got : Result ℕ Error) (piece : List ℕ) → way_of got ≡ Ok None → Appends a a (fed_text m (take (count_of got (length piece)) piece))
+pub nothing_said : (a : Option (List ℕ)) (m : Model) (got : Result ℕ Error) (piece : List ℕ) → way_of got ≡ Ok None → Appends a a (fed_text m (take (count_of got (length piece)) piece))
 unfolding fed_text
-nothing-said a m (Ok zero) piece e = rw (take_min 0 piece) (Appends-nil a)
-nothing-said a m (Ok (suc n)) piece e = let z : ⊥ = cc in absurd z
-nothing-said a m (Err x) piece e = let z : ⊥ = cc in absurd z
+nothing_said a m (Ok zero) piece e = rw (take_min 0 piece) (Appends-nil a)
+nothing_said a m (Ok (suc n)) piece e = let z : ⊥ = cc in absurd z
+nothing_said a m (Err x) piece e = let z : ⊥ = cc in absurd z
