@@ -1,5 +1,5 @@
 -- What a read came to, by how its turn went.
-use Rattle.std.proofs.Common.{ℕ, zero, suc, min, true, ◌≡◌, List, length, take, Result, Ok, Err, None, Some, OnOk, refl, subst, ap, ◌∙◌}
+use Rattle.std.proofs.Common.{ℕ, zero, suc, min, true, ◌≡◌, ◌<◌, arith, List, length, take, Result, Ok, Err, None, Some, OnOk, refl, subst, ap, ◌∙◌}
 use Rattle.std.specs.Prelude.{Option}
 use Rattle.std.specs.declared.io.Error.{Error}
 use Rattle.std.proofs.lemmas.List.{take_min}
@@ -36,6 +36,15 @@ turning-on s (Ok (suc k)) piece t r h n e =
     subst (λ q. Poured s (take (min (suc k) (length piece)) piece) (turned t q)) e (h.came refl).1 in
     (ap (λ (j : ℕ). Ok j) i, m, p ∙ ap (λ (l : List ℕ). fed_state (view s) l) m)
 turning-on s (Err x) piece t r h n e = let w = (h.stays refl).1 in let z : ⊥ = cc in absurd z
+
+-- and then it is one byte at least
+pub turning-some : {s t : Stream} (got : Result ℕ Error) {piece : List ℕ} {r : Result (Option ℕ) Failure} → Turning s got piece t r → (n : ℕ) → r ≡ Ok (Some n) → 0 < n
+turning-some (Ok zero) h n e = let w = (h.stays refl).1 in let z : ⊥ = cc in absurd z
+turning-some (Ok (suc k)) h n e =
+    let w = as-it-was (Ok (suc k)) (Some n) h e refl in
+    let i : suc k ≡ n = cc in
+    omega arith
+turning-some (Err x) h n e = let w = (h.stays refl).1 in let z : ⊥ = cc in absurd z
 
 -- where nothing came there is nothing to answer
 pub nothing_said : (a : Option (List ℕ)) (m : Model) (got : Result ℕ Error) (piece : List ℕ) → way_of got ≡ Ok None → Appends a a (fed_text m (take (count_of got (length piece)) piece))

@@ -1,5 +1,5 @@
 -- One read after another, and the end: what was read is answered, but for a line that has begun, and at the end that line too.
-use Rattle.std.proofs.Common.{ℕ, false, ◌≡◌, ◌<◌, List, [], ◌++◌, length, take, Result, Ok, Err, OnOk, Some, None, IfSome, append-nil, refl, sym, ap, subst, ◌∙◌}
+use Rattle.std.proofs.Common.{ℕ, ◌+◌, ◌≤◌, length-append, length-take, arith, false, ◌≡◌, ◌<◌, List, [], ◌++◌, length, take, Result, Ok, Err, OnOk, Some, None, IfSome, append-nil, refl, sym, ap, subst, ◌∙◌}
 use Rattle.std.specs.Prelude.{Option}
 use Rattle.std.specs.Result.{MatchResult, IsErrAnd}
 use Rattle.std.specs.declared.io.Error.{Error}
@@ -12,32 +12,38 @@ use Rattle.frames.specs.Stream.{Model, fresh, fed_state, fed_text, end_text, vie
 use Rattle.frames.specs.Whole.{replies}
 use Rattle.frames.proofs.Pieces.{state-append, text-append, whole-text}
 use Rattle.plot.specs.Turn.{count_of, goes_on, Turning}
-use Rattle.plot.proofs.Turning.{turning-ended, turning-on}
+use Rattle.plot.proofs.Turning.{turning-ended, turning-on, turning-some}
 
--- of an input that had `all` and has `left`, the stream took what is missing, and a writer that held `old` and holds `new` was given the answers
-pub record Replied (all left old new : Option (List ℕ)) (s : Stream) : Type 0 where
+-- of an input that had `all` and has `left`, the stream took what is missing, a byte or more in each of k turns, and a writer that held `old` and holds `new` was given the answers
+pub record Replied (k : ℕ) (all left old new : Option (List ℕ)) (s : Stream) : Type 0 where
   pub read : List ℕ
+  pub turns : k ≤ length read
   pub state : view s ≡ fed_state fresh read
   pub consumed : Consumes all left read
   pub written : Appends old new (fed_text fresh read)
 
-pub replied-none : (all old : Option (List ℕ)) (s : Stream) → view s ≡ fresh → Replied all all old old s
+pub replied-none : (all old : Option (List ℕ)) (s : Stream) → view s ≡ fresh → Replied 0 all all old old s
 unfolding fed_state fed_text
-replied-none all old s e = record { read = []; state = e; consumed = Consumes-nil all; written = Appends-nil old }
+replied-none all old s e = record { read = []; turns = omega arith; state = e; consumed = Consumes-nil all; written = Appends-nil old }
 
-module _ {all left old new : Option (List ℕ)} {s : Stream} {got : Result ℕ Error} {piece : List ℕ} {r : Stream} {way : Result (Option ℕ) Failure}
-    (p : Replied all left old new s) (t : Turning s got piece r way) where
+-- where there was room, some of what came is taken
+some-came : (n : ℕ) (piece : List ℕ) → 0 < n → 0 < length piece → 0 < length (take n piece)
+some-came n piece a b = omega (arith, length-take n piece)
+
+module _ {k : ℕ} {all left old new : Option (List ℕ)} {s : Stream} {got : Result ℕ Error} {piece : List ℕ} {r : Stream} {way : Result (Option ℕ) Failure}
+    (p : Replied k all left old new s) (t : Turning s got piece r way) where
   -- a read that gave some bytes, and they are answered
-  pub replied-on : (left' new' : Option (List ℕ)) (n : ℕ) → ReadConsumes left left' got piece → way ≡ Ok (Some n)
-      → Appends new new' (fed_text (view s) (take (count_of got (length piece)) piece)) → Replied all left' old new' r
-  replied-on left' new' n b e w =
-      let (g, k, f) = turning-on s got piece r way t n e in
+  pub replied-on : (left' new' : Option (List ℕ)) (n : ℕ) → ReadConsumes left left' got piece → way ≡ Ok (Some n) → 0 < length piece
+      → Appends new new' (fed_text (view s) (take (count_of got (length piece)) piece)) → Replied (k + 1) all left' old new' r
+  replied-on left' new' n b e h w =
+      let (g, l, f) = turning-on s got piece r way t n e in
       let more : List ℕ = take n piece in
       let c : Consumes left left' more = (subst (λ (x : Result ℕ Error). ReadConsumes left left' x piece) g b).0 in
       let v : Appends new new' (fed_text (fed_state fresh p.read) more) =
-      subst (λ (m : Model). Appends new new' (fed_text m more)) p.state (subst (λ (l : List ℕ). Appends new new' (fed_text (view s) l)) k w) in
+      subst (λ (m : Model). Appends new new' (fed_text m more)) p.state (subst (λ (l : List ℕ). Appends new new' (fed_text (view s) l)) l w) in
       record {
         read = p.read ++ more;
+        turns = omega (arith, p.turns, length-append p.read more, some-came n piece (turning-some got t n e) h);
         state = f ∙ ap (λ (m : Model). fed_state m more) p.state ∙ sym (state-append fresh p.read more);
         consumed = Consumes-trans all left left' p.read more p.consumed c;
         written =

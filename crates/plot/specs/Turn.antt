@@ -7,10 +7,14 @@ use Rattle.std.specs.declared.io.Error.{Error}
 use Rattle.frames.specs.declared.stream.Stream.{Stream}
 use Rattle.frames.specs.Stream.{view, fed_state}
 
+-- a write failed
+abbrev pub Unwritten : Failure → Type 0
+Unwritten f = (error : Error) × (f ≡ Writing error)
+
 -- a piece of the input: a stream that has taken all of it, or a write failed
 abbrev pub Poured : Stream → List ℕ → Result Stream Failure → Type 0
 Poured s xs (Ok t) = view t ≡ fed_state (view s) xs
-Poured s xs (Err f) = (error : Error) × (f ≡ Writing error)
+Poured s xs (Err f) = Unwritten f
 
 -- how many of so many bytes a read gave: none where it failed
 abbrev pub count_of : Result ℕ Error → ℕ → ℕ

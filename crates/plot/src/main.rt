@@ -1,12 +1,12 @@
 // Reads frames on standard input and writes the reply to each on standard output, until the input ends or a read or a write fails.
 #![tactic(auto)]
 
-ghost use Rattle.std.specs.Prelude.{◌≡◌, ◌≤◌, false, IfSome, OnOk, length, take};
+ghost use Rattle.std.specs.Prelude.{◌≡◌, ◌-◌, ◌^◌, ◌≤◌, false, Err, IfErr, IfSome, OnOk, length, take};
 ghost use Rattle.std.specs.Io.KnownBytes.{Appends, Keeps};
 ghost use Rattle.console.specs.Way.{way_of};
 ghost use Rattle.frames.specs.Stream.{end_text, fed_text, room, view};
 ghost use Rattle.frames.specs.Whole.{replies};
-ghost use Rattle.plot.specs.Turn.{count_of, goes_on, Poured, Turning};
+ghost use Rattle.plot.specs.Turn.{count_of, goes_on, Poured, Turning, Unwritten};
 
 use console::Failure;
 use frames::stream::Stream;
@@ -41,8 +41,7 @@ fn pour<W: Write>(out: &mut W, s: Stream, xs: &[u8], page: &mut [u8]) -> Result<
     Ok(stream)
 }
 
-// The answer to a read that gave so many bytes, or failed: how many came, or none where the input has ended. Where none came the stream stays.
-// The stream is lent, for a board is long.
+// The answer to a read that gave so many bytes, or failed: how many came, or none where the input has ended. Unless some came the stream stays.
 fn answer<W: Write>(
     out: &mut W,
     s: &mut Stream,
@@ -65,7 +64,8 @@ fn answer<W: Write>(
 
 // The end of the input: the reply to a line that has begun.
 fn last<W: Write>(out: &mut W, s: Stream) -> Result<(), Failure>
-    ensures { OnOk result (Appends (W.contents out.old) (W.contents out.new) (end_text (view s))) }
+    ensures failed { IfErr result Unwritten }
+    ensures written { OnOk result (Appends (W.contents out.old) (W.contents out.new) (end_text (view s))) }
 {
     let mut page = [0u8; LAST_PAGE];
     let n = frames::stream::finish(s, &mut page);
@@ -74,7 +74,8 @@ fn last<W: Write>(out: &mut W, s: Stream) -> Result<(), Failure>
 
 // Answers the whole input, unless reading or writing fails. Each turn takes a byte at least, so 2^64 - 1 turns are more than any input has.
 fn run<R: Read, W: Write>(input: &mut R, out: &mut W) -> Result<(), Failure>
-    ensures { OnOk result (IfSome (R.remaining input.old) (λ xs. Appends (W.contents out.old) (W.contents out.new) (replies xs))) }
+    ensures answered { OnOk result (IfSome (R.remaining input.old) (λ xs. Appends (W.contents out.old) (W.contents out.new) (replies xs))) }
+    ensures unfinished { result ≡ Err Failure.Unfinished → IfSome (R.remaining input.old) (λ xs. 2 ^ 64 - 1 ≤ length xs) }
 {
     let mut stream = frames::stream::begin();
     let mut piece = [0u8; PIECE];

@@ -9,10 +9,10 @@ loop-init g c = replied-none _ _ _ c.begin-stream.ensures.0
 
 pub loop-preserved : goal.loop-preserved
 loop-preserved g c =
-    replied-on c.loop.invariant c.in_ok-answer.ensures.turning _ _ _ c.read-got.ensures.bytes (ap Ok c.in-Some.is) c.in_ok-answer.ensures.written
+    replied-on c.loop.invariant c.in_ok-answer.ensures.turning _ _ _ c.read-got.ensures.bytes (ap Ok c.in-Some.is) (omega arith) c.in_ok-answer.ensures.written
 
-pub returns-in_default : goal.returns-in_default
-returns-in_default g c =
+pub returns-in_default-clause-answered : goal.returns-in_default-clause-answered
+returns-in_default-clause-answered g c =
     on_ok_weaker c.last.result
     (λ w. replied-ended c.loop.invariant c.in_ok-answer.ensures.turning _ _ _ c.read-got.ensures.bytes (ap Ok c.in_default.is) (omega arith)
-    c.in_ok-answer.ensures.silent w) c.last.ensures
+    c.in_ok-answer.ensures.silent w) c.last.ensures.written
