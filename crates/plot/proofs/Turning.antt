@@ -47,7 +47,8 @@ turning-some (Ok (suc k)) h n e =
 turning-some (Err x) h n e = let w = (h.stays refl).1 in let z : ⊥ = cc in absurd z
 
 -- where nothing came there is nothing to answer
-pub nothing_said : (a : Option (List ℕ)) (m : Model) (got : Result ℕ Error) (piece : List ℕ) → way_of got ≡ Ok None → Appends a a (fed_text m (take (count_of got (length piece)) piece))
+pub nothing_said : (a : Option (List ℕ)) (m : Model) (got : Result ℕ Error) (piece : List ℕ) → way_of got ≡ Ok None
+    → Appends a a (fed_text m (take (count_of got (length piece)) piece))
 unfolding fed_text
 nothing_said a m (Ok zero) piece e = rw (take_min 0 piece) (Appends-nil a)
 nothing_said a m (Ok (suc n)) piece e = let z : ⊥ = cc in absurd z

@@ -1,5 +1,6 @@
 -- One read after another, and the end: what was read is answered, but for a line that has begun, and at the end that line too.
-use Rattle.std.proofs.Common.{ℕ, ◌+◌, ◌≤◌, length-append, length-take, arith, false, ◌≡◌, ◌<◌, List, [], ◌++◌, length, take, Result, Ok, Err, OnOk, Some, None, IfSome, append-nil, refl, sym, ap, subst, ◌∙◌}
+use Rattle.std.proofs.Common.{ℕ, false, ◌+◌, ◌≡◌, ◌≤◌, ◌<◌, List, [], ◌++◌, length, take, Result, Ok, Err, OnOk, Some, None, IfSome, refl, sym, ap, subst, ◌∙◌, arith}
+use Rattle.std.proofs.Common.{append-nil, length-append, length-take}
 use Rattle.std.specs.Prelude.{Option}
 use Rattle.std.specs.Result.{MatchResult, IsErrAnd}
 use Rattle.std.specs.declared.io.Error.{Error}
