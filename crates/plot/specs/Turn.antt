@@ -27,9 +27,9 @@ goes_on (Ok (Some n)) = true
 goes_on (Ok None) = false
 goes_on (Err f) = false
 
--- the stream after a turn, or why it failed
-abbrev pub turned : Stream → Result (Option ℕ) Failure → Result Stream Failure
-turned t (Ok n) = Ok t
+-- a stream as it was left, or why that failed
+abbrev pub turned : {T : Type 0} → Stream → Result T Failure → Result Stream Failure
+turned t (Ok x) = Ok t
 turned t (Err f) = Err f
 
 -- a read: what came of it is poured, and unless a write fails it goes on; where nothing came, or it failed, the stream stays as it was

@@ -6,7 +6,7 @@ ghost use Rattle.std.specs.Io.KnownBytes.{Appends, Keeps};
 ghost use Rattle.console.specs.Way.{way_of};
 ghost use Rattle.frames.specs.Stream.{end_text, fed_text, room, view};
 ghost use Rattle.frames.specs.Whole.{replies};
-ghost use Rattle.plot.specs.Turn.{count_of, goes_on, Poured, Turning, Unwritten};
+ghost use Rattle.plot.specs.Turn.{count_of, goes_on, turned, Poured, Turning, Unwritten};
 
 use console::Failure;
 use frames::stream::Stream;
@@ -23,22 +23,21 @@ const PAGE: usize = 65_536;
 
 const LAST_PAGE: usize = 4_096;
 
-// Answers a piece of the input, page by page, writes each page at once, and hands back the stream after it.
-fn pour<W: Write>(out: &mut W, s: Stream, xs: &[u8], page: &mut [u8]) -> Result<Stream, Failure>
+// Answers a piece of the input, page by page, and writes each page at once. The stream is lent, for a board is long.
+fn pour<W: Write>(out: &mut W, s: &mut Stream, xs: &[u8], page: &mut [u8]) -> Result<(), Failure>
     requires { room ≤ length page.old }
-    ensures poured { Poured s xs.now result }
-    ensures written { OnOk result (Appends (W.contents out.old) (W.contents out.new) (fed_text (view s) xs.now)) }
+    ensures poured { Poured s.old xs.now (turned s.new result) }
+    ensures written { OnOk result (Appends (W.contents out.old) (W.contents out.new) (fed_text (view s.old) xs.now)) }
 {
-    let mut stream = s;
     let mut rest = xs;
     // No `chunks`: each turn takes as much of the rest as `feed` uses, by its lines and the page.
     while !rest.is_empty() {
-        let fed = frames::stream::feed(stream, rest, page);
-        stream = fed.stream;
+        let fed = frames::stream::feed(*s, rest, page);
+        *s = fed.stream;
         rest = &rest[fed.used..];
         out.write_all(&page[..fed.next]).map_err(Failure::Writing)?;
     }
-    Ok(stream)
+    Ok(())
 }
 
 // The answer to a read that gave so many bytes, or failed: how many came, or none where the input has ended. Unless some came the stream stays.
@@ -58,7 +57,7 @@ fn answer<W: Write>(
         return Ok(None);
     };
     let came = n.min(piece.len());
-    *s = pour(out, *s, &piece[..came], page)?;
+    pour(out, s, &piece[..came], page)?;
     Ok(Some(n))
 }
 
