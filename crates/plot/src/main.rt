@@ -1,11 +1,12 @@
 // Reads frames on standard input and writes the reply to each on standard output, until the input ends or a read or a write fails.
 #![tactic(auto)]
 
-ghost use Rattle.std.specs.Prelude.{◌≤◌, IfSome, OnOk, length};
-ghost use Rattle.std.specs.Io.KnownBytes.{Appends};
+ghost use Rattle.std.specs.Prelude.{◌≡◌, ◌-◌, ◌^◌, ◌≤◌, false, Err, IfErr, IfSome, OnOk, length, take};
+ghost use Rattle.std.specs.Io.KnownBytes.{Appends, Keeps};
+ghost use Rattle.console.specs.Way.{way_of};
 ghost use Rattle.frames.specs.Stream.{end_text, fed_text, room, view};
 ghost use Rattle.frames.specs.Whole.{replies};
-ghost use Rattle.plot.specs.Turn.{Poured};
+ghost use Rattle.plot.specs.Turn.{count_of, goes_on, turned, Poured, Turning, Unwritten};
 
 use console::Failure;
 use frames::stream::Stream;
@@ -22,27 +23,48 @@ const PAGE: usize = 65_536;
 
 const LAST_PAGE: usize = 4_096;
 
-// Answers a piece of the input, page by page, writes each page at once, and hands back the stream after it.
-fn pour<W: Write>(out: &mut W, s: Stream, xs: &[u8], page: &mut [u8]) -> Result<Stream, Failure>
+// Answers a piece of the input, page by page, and writes each page at once. The stream is lent, for a board is long.
+fn pour<W: Write>(out: &mut W, s: &mut Stream, xs: &[u8], page: &mut [u8]) -> Result<(), Failure>
     requires { room ≤ length page.old }
-    ensures poured { Poured s xs.now result }
-    ensures written { OnOk result (Appends (W.contents out.old) (W.contents out.new) (fed_text (view s) xs.now)) }
+    ensures poured { Poured s.old xs.now (turned s.new result) }
+    ensures written { OnOk result (Appends (W.contents out.old) (W.contents out.new) (fed_text (view s.old) xs.now)) }
 {
-    let mut stream = s;
     let mut rest = xs;
     // No `chunks`: each turn takes as much of the rest as `feed` uses, by its lines and the page.
     while !rest.is_empty() {
-        let fed = frames::stream::feed(stream, rest, page);
-        stream = fed.stream;
+        let fed = frames::stream::feed(*s, rest, page);
+        *s = fed.stream;
         rest = &rest[fed.used..];
         out.write_all(&page[..fed.next]).map_err(Failure::Writing)?;
     }
-    Ok(stream)
+    Ok(())
+}
+
+// The answer to a read that gave so many bytes, or failed: how many came, or none where the input has ended. Unless some came the stream stays.
+fn answer<W: Write>(
+    out: &mut W,
+    s: &mut Stream,
+    got: io::Result<usize>,
+    piece: &[u8],
+    page: &mut [u8],
+) -> Result<Option<usize>, Failure>
+    requires { room ≤ length page.old }
+    ensures turning { Turning s.old got piece.now s.new result }
+    ensures written { OnOk result (Appends (W.contents out.old) (W.contents out.new) (fed_text (view s.old) (take (count_of got (length piece.now)) piece.now))) }
+    ensures silent { goes_on (way_of got) ≡ false → Keeps (W.contents out.old) (W.contents out.new) }
+{
+    let Some(n) = console::way_of(got)? else {
+        return Ok(None);
+    };
+    let came = n.min(piece.len());
+    pour(out, s, &piece[..came], page)?;
+    Ok(Some(n))
 }
 
 // The end of the input: the reply to a line that has begun.
 fn last<W: Write>(out: &mut W, s: Stream) -> Result<(), Failure>
-    ensures { OnOk result (Appends (W.contents out.old) (W.contents out.new) (end_text (view s))) }
+    ensures failed { IfErr result Unwritten }
+    ensures written { OnOk result (Appends (W.contents out.old) (W.contents out.new) (end_text (view s))) }
 {
     let mut page = [0u8; LAST_PAGE];
     let n = frames::stream::finish(s, &mut page);
@@ -51,17 +73,17 @@ fn last<W: Write>(out: &mut W, s: Stream) -> Result<(), Failure>
 
 // Answers the whole input, unless reading or writing fails. Each turn takes a byte at least, so 2^64 - 1 turns are more than any input has.
 fn run<R: Read, W: Write>(input: &mut R, out: &mut W) -> Result<(), Failure>
-    ensures { OnOk result (IfSome (R.remaining input.old) (λ xs. Appends (W.contents out.old) (W.contents out.new) (replies xs))) }
+    ensures answered { OnOk result (IfSome (R.remaining input.old) (λ xs. Appends (W.contents out.old) (W.contents out.new) (replies xs))) }
+    ensures unfinished { result ≡ Err Failure.Unfinished → IfSome (R.remaining input.old) (λ xs. 2 ^ 64 - 1 ≤ length xs) }
 {
     let mut stream = frames::stream::begin();
     let mut piece = [0u8; PIECE];
     let mut page = [0u8; PAGE];
     for _ in 0..u64::MAX {
-        let Some(n) = console::way_of(input.read(&mut piece))? else {
+        let got = input.read(&mut piece);
+        let Some(_) = answer(out, &mut stream, got, &piece, &mut page)? else {
             return last(out, stream);
         };
-        let came = n.min(PIECE);
-        stream = pour(out, stream, &piece[..came], &mut page)?;
     }
     Err(Failure::Unfinished)
 }

@@ -47,7 +47,7 @@ loop-rest-preserved g c =
     let l = c.loop-rest in
     let xs = l.rest.now in
     let f = c.feed-fed.ensures.feeding in
-    let m = view l.stream in
+    let m = view l.s in
     let n = view c.feed-fed.result.stream in
     let u = c.feed-fed.result.used in
     let page = take c.feed-fed.result.next c.feed-fed.new.page in
@@ -76,7 +76,7 @@ pub returns-clause-poured : goal.returns-clause-poured
 unfolding fed_state
 returns-clause-poured g c =
     let none : c.loop-rest.rest.now ≡ [] = none-left _ c.is_empty.ensures c.loop-rest-test.false in
-    ap (fed_state (view c.loop-rest.stream)) (sym none) ∙ c.loop-rest.invariant.state
+    ap (fed_state (view c.loop-rest.s)) (sym none) ∙ c.loop-rest.invariant.state
 
 pub returns-clause-written : goal.returns-clause-written
 unfolding fed_text
@@ -84,4 +84,4 @@ returns-clause-written g c =
     let none : c.loop-rest.rest.now ≡ [] = none-left _ c.is_empty.ensures c.loop-rest-test.false in
     let t = c.loop-rest.invariant.text in
     subst (λ z. Appends (g.W.Write.contents c.args.out.now) (g.W.Write.contents c.loop-rest.out) z)
-    (sym (append-nil t.0) ∙ ap (λ (z : List ℕ). t.0 ++ fed_text (view c.loop-rest.stream) z) (sym none) ∙ t.2) t.1
+    (sym (append-nil t.0) ∙ ap (λ (z : List ℕ). t.0 ++ fed_text (view c.loop-rest.s) z) (sym none) ∙ t.2) t.1

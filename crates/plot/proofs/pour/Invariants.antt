@@ -6,9 +6,9 @@ use Rattle.plot.proofs.pour.Given as goal
 
 abbrev pub invariant-loop-rest : goal.invariant-loop-rest
 invariant-loop-rest g l = record {
-  state : fed_state (view l.stream) l.rest ≡ fed_state (view l.initial.stream) l.xs;
+  state : fed_state (view l.s) l.rest ≡ fed_state (view l.initial.s) l.xs;
   text : (t : List ℕ) × Appends (g.W.Write.contents l.initial.out) (g.W.Write.contents l.out) t
-      × (t ++ fed_text (view l.stream) l.rest ≡ fed_text (view l.initial.stream) l.xs);
+      × (t ++ fed_text (view l.s) l.rest ≡ fed_text (view l.initial.s) l.xs);
 }
 
 abbrev pub decreases-loop-rest : goal.decreases-loop-rest
