@@ -10,7 +10,7 @@ use plain::targets::{MOST_TARGETS, Target};
 use sessions::quick::{Quick, look};
 use sessions::session::{Session, step};
 use targets::{bared, empty};
-use wire::frame::{read, read_known};
+use wire::frame::{Frame, read, read_known};
 use wire::reply::{Reply, put};
 
 // The room that any reply fits, its newline with it.
@@ -62,16 +62,17 @@ fn put_reply_line(out: &mut [u8], at: usize, reply: Reply) -> usize
     n + 1
 }
 
-// A session in its parts. It is lent, for a board is long.
+// A session in its parts. It is lent, and its board looked at where it lies, for a board is long.
+#[inline(never)]
 fn parts_of(session: &Session) -> InParts
     ensures { turn.PartsOf session.now result }
 {
-    match session.board {
+    match &session.board {
         Some(board) => {
             let targets = board.targets;
             let entries = targets.entries;
             InParts {
-                setting: Some(setting_of(board)),
+                setting: Some(setting_of(*board)),
                 entries,
             }
         }
@@ -87,11 +88,37 @@ fn parts_of(session: &Session) -> InParts
 }
 
 // The session of a setting, if it has one, and entries.
+#[inline(never)]
 fn session_of(setting: Option<Setting>, entries: [Target; MOST_TARGETS]) -> Session
     ensures { result ≡ session_of setting entries }
 {
-    Session {
-        board: setting.map(|s| board_of(s, entries)),
+    // By a match: a closure would hold the entries, and copy them once more.
+    match setting {
+        Some(s) => Session {
+            board: Some(board_of(s, entries)),
+        },
+        None => Session { board: None },
+    }
+}
+
+// A session in its parts beside a reply.
+#[derive(Clone, Copy)]
+struct Answered {
+    parts: InParts,
+    reply: Reply,
+}
+
+// What a frame that a quick look does not tell makes of a session in its parts.
+// Never within `lines`, which would then make room for whole sessions each time that it is called, though most pieces need none.
+#[inline(never)]
+fn answer(parts: InParts, frame: Option<Frame>) -> Answered
+    ensures { turn.Answering parts frame result }
+{
+    let stepped = step(session_of(parts.setting, parts.entries), frame);
+    let after = parts_of(&stepped.session);
+    Answered {
+        parts: after,
+        reply: stepped.reply,
     }
 }
 
@@ -166,9 +193,9 @@ fn lines(s: Stream, xs: &[u8], page: &mut [u8]) -> Fed
                 Reply::Done(kind)
             }
             None => {
-                let stepped = step(session_of(parts.setting, parts.entries), frame);
-                parts = parts_of(&stepped.session);
-                stepped.reply
+                let answered = answer(parts, frame);
+                parts = answered.parts;
+                answered.reply
             }
         };
         next = put_reply_line(page, next, reply);
