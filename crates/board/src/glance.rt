@@ -11,7 +11,7 @@ use plain::state::Board;
 use plain::targets::{Held, MOST_TARGETS, Target, Targets};
 use questions::call::vehicle;
 use questions::{ends_asked, fix_asked, identity_asked};
-use targets::{Named, least, seek};
+use targets::{Named, seek_first};
 
 // All of a board but the entries of its targets.
 // A board has these parts itself, for they are the plain board's: within a setting each would be named one step deeper, in every definition.
@@ -92,8 +92,7 @@ fn at_report<T: Named>(count: usize, among: &[T], identity: u16, fix: Fix) -> Op
     if let Err(refusal) = report_asked(identity, fix) {
         return Some(Hint::Stays(Err(refusal)));
     }
-    let n = least(count).min(among.len());
-    let p = seek(&among[..n], identity).ok()?;
+    let p = seek_first(among, count, identity).ok()?;
     let held = Held {
         report: vehicle(fix),
         line: None,

@@ -4,6 +4,8 @@
 mod inputs;
 mod turns;
 
+ghost use Rattle.std.specs.Prelude.{◌≤◌, length};
+
 use std::io::Read;
 use turns::Call;
 
@@ -14,8 +16,8 @@ const COUNT: usize = 8;
 
 const LINE: usize = CALL + COUNT + 1;
 
-// The most lines that are answered.
-const LINES: usize = 372;
+// Room for all that is read.
+const TEXT: usize = 4096;
 
 // The digest of a line.
 fn answer<P: Print>(out: &P, line: &[u8]) {
@@ -25,14 +27,26 @@ fn answer<P: Print>(out: &P, line: &[u8]) {
     let _ = println!(out; "{digest:016x}");
 }
 
-// Answers whole lines until the input ends or a read fails.
-fn main(rt: HostRuntime) {
-    let mut input = rt.stdin();
-    let mut line = [0u8; LINE];
-    for _ in 0..LINES {
-        if input.read_exact(&mut line).is_err() {
-            return;
+// Reads until the text is full, the input ends or a read fails. How many bytes came?
+fn read_full<R: Read>(input: &mut R, text: &mut [u8]) -> usize
+    ensures { result ≤ length text.new }
+{
+    let mut done = 0;
+    while done < text.len() {
+        let got = input.read(&mut text[done..]).unwrap_or(0);
+        if got == 0 {
+            break;
         }
-        answer(&rt.stdout(), &line);
+        done += got;
+    }
+    done
+}
+
+// Answers the whole lines. All is read before the first digest is written: an output that is the input's own file is not read back.
+fn main(rt: HostRuntime) {
+    let mut text = [0u8; TEXT];
+    let n = read_full(&mut rt.stdin(), &mut text);
+    for line in text[..n].chunks_exact(LINE) {
+        answer(&rt.stdout(), line);
     }
 }

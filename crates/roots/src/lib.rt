@@ -60,7 +60,10 @@ impl Radicand {
         if d.is_nan() {
             return FIELD;
         }
-        f64::to_bits(d) % FIELD + FIELD
+        // d * 2^52, by its bits; where d is 2, of an m just below 2^54, the last that is below 2^53: half the root is then one more.
+        f64::to_bits(d)
+            .saturating_sub(0x3fe * FIELD)
+            .clamp(FIELD, 2 * FIELD - 1)
     }
 
     // Half the root, to the nearest whole number: the estimate, moved by one at most, or else by the whole root.

@@ -1,5 +1,6 @@
 // Navigation on a sphere.
 ghost use Rattle.std.specs.Prelude.{◌≡◌};
+ghost use Rattle.jord.specs.Angle as angles;
 ghost use Rattle.spherical.specs.Sphere as spec;
 
 use crate::interpolated::Outside;
@@ -157,14 +158,22 @@ impl Sphere {
     pub fn final_bearing(p1: NVector, p2: NVector) -> Angle
         ensures { result ≡ spec.final_bearing p1 p2 }
     {
-        compass(p1, p2, final_bearing_radians(p1, p2))
+        if Sphere::is_great_circle(p1, p2) {
+            compass(final_bearing_radians(p1, p2))
+        } else {
+            Angle::ZERO
+        }
     }
 
     // The compass angle at p1 towards p2; 0 where they define no great circle.
     pub fn initial_bearing(p1: NVector, p2: NVector) -> Angle
         ensures { result ≡ spec.initial_bearing p1 p2 }
     {
-        compass(p1, p2, initial_bearing_radians(p1, p2))
+        if Sphere::is_great_circle(p1, p2) {
+            compass(initial_bearing_radians(p1, p2))
+        } else {
+            Angle::ZERO
+        }
     }
 
     // The position at an angle from p1 on the great circle from p1 through p2.
@@ -243,13 +252,10 @@ impl Sphere {
     }
 }
 
-// The compass angle of a bearing on the way from p1 to p2; 0 where they define no great circle.
-fn compass(p1: NVector, p2: NVector, radians: f64) -> Angle
-    ensures { result ≡ spec.compass p1 p2 radians }
+// The compass angle of a bearing. Who calls it has asked for a great circle first: of two positions that define none no bearing is worked out.
+fn compass(radians: f64) -> Angle
+    ensures { result ≡ angles.normalised (angles.from_radians radians) }
 {
-    if !Sphere::is_great_circle(p1, p2) {
-        return Angle::ZERO;
-    }
     Angle::from_radians(radians).normalised()
 }
 

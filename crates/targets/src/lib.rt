@@ -107,6 +107,15 @@ pub fn seek<T: Named>(among: &[T], identity: u16) -> Result<usize, usize>
     }
 }
 
+// The same among the first `count` of these alone, 64 at most, or all where there are fewer.
+pub fn seek_first<T: Named>(among: &[T], count: usize, identity: u16) -> Result<usize, usize>
+    ensures value { result ≡ spec.spot_in 0 identity (take (at_most count) (map T.name among.now)) }
+    ensures unchanged { among.exit.now ≡ among.entry.now }
+{
+    let n = least(count).min(among.len());
+    seek(&among[..n], identity)
+}
+
 // The entries with t in place p, those from p on one place later and the last dropped; as they were where p is 64 or more.
 pub fn inserted(mut entries: [Target; MOST_TARGETS], p: usize, t: Target) -> [Target; MOST_TARGETS]
     ensures { result ≡ take most_targets (take p entries ++ t ∷ drop p entries) }
