@@ -1,5 +1,5 @@
 -- What the functions under `feed` and `finish` hand to one another. Definitions only.
-use Rattle.std.specs.Prelude.{ℕ, Option, ◌+◌, ◌-◌, ◌≤◌, Bool, true, cond, List, [], ◌∷◌, ◌++◌, ◌≢◌, ◌≡◌, ltb, length, take, drop}
+use Rattle.std.specs.Prelude.{ℕ, ◌+◌, ◌-◌, ◌≤◌, Bool, true, cond, List, [], ◌∷◌, ◌++◌, ◌≢◌, ◌≡◌, ltb, length, take, drop}
 use Rattle.hex_digits.specs.Write.{Wrote}
 use Rattle.wire.specs.declared.kind.Kind.{Kind}
 use Rattle.wire.specs.declared.reply.Reason.{Reason}
@@ -7,10 +7,7 @@ use Rattle.wire.specs.declared.reply.Reply.{Reply}
 use Rattle.wire.specs.Reply.{reply_digits}
 use Rattle.sessions.specs.declared.session.Session.{Session}
 use Rattle.sessions.specs.Quick.{session_of}
-use Rattle.sessions.specs.Session.{Stepping}
-use Rattle.wire.specs.declared.frame.Frame.{Frame}
 use Rattle.frames.specs.declared.stream.InParts.{InParts}
-use Rattle.frames.specs.declared.stream.Answered.{Answered}
 use Rattle.frames.specs.declared.stream.Fed.{Fed}
 use Rattle.frames.specs.declared.stream.Stream.{Stream}
 use Rattle.frames.specs.Whole.{newline}
@@ -27,10 +24,6 @@ PutReplyLine y page at out next = Wrote page at (length (reply_digits y ++ (newl
 -- a session in its parts, which are those of the session
 pub record PartsOf (s : Session) (r : InParts) : Type 0 where
   pub same : session_of r.setting r.entries ≡ s
-
--- what a step makes of a session in its parts: the session after it in its parts, and the reply
-pub record Answering (p : InParts) (f : Option Frame) (r : Answered) : Type 0 where
-  pub stepping : Stepping (session_of p.setting p.entries) f (record { session = session_of r.parts.setting r.parts.entries; reply = r.reply })
 
 -- the line that has begun alone: where it is not yet answered all that can be used is, and where it is the rest of the piece is left
 pub record GoingOn (s : Stream) (xs page out : List ℕ) (r : Fed) : Type 0 where

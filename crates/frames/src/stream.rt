@@ -10,7 +10,7 @@ use plain::targets::{MOST_TARGETS, Target};
 use sessions::quick::{Quick, look};
 use sessions::session::{Session, step};
 use targets::{bared, empty};
-use wire::frame::{Frame, read, read_known};
+use wire::frame::{read, read_known};
 use wire::reply::{Reply, put};
 
 // The room that any reply fits, its newline with it.
@@ -101,27 +101,6 @@ fn session_of(setting: Option<Setting>, entries: [Target; MOST_TARGETS]) -> Sess
     }
 }
 
-// A session in its parts beside a reply.
-#[derive(Clone, Copy)]
-struct Answered {
-    parts: InParts,
-    reply: Reply,
-}
-
-// What a frame that a quick look does not tell makes of a session in its parts.
-// Never within `lines`, which would then make room for whole sessions each time that it is called, though most pieces need none.
-#[inline(never)]
-fn answer(parts: InParts, frame: Option<Frame>) -> Answered
-    ensures { turn.Answering parts frame result }
-{
-    let stepped = step(session_of(parts.setting, parts.entries), frame);
-    let after = parts_of(&stepped.session);
-    Answered {
-        parts: after,
-        reply: stepped.reply,
-    }
-}
-
 // Does what comes next wait: a line that does not end in the piece, or a reply that might not fit?
 fn waits(end: usize, length: usize, left: usize) -> bool
     ensures { result ≡ turn.waits end length left }
@@ -193,9 +172,9 @@ fn lines(s: Stream, xs: &[u8], page: &mut [u8]) -> Fed
                 Reply::Done(kind)
             }
             None => {
-                let answered = answer(parts, frame);
-                parts = answered.parts;
-                answered.reply
+                let stepped = step(session_of(parts.setting, parts.entries), frame);
+                parts = parts_of(&stepped.session);
+                stepped.reply
             }
         };
         next = put_reply_line(page, next, reply);

@@ -130,7 +130,7 @@ answered c =
           let i = w.in-Some-Sweeps in
           let h = looked p.setting p.entries c.read_known-frame.result c.look.ensures.value (i.is ∙ ap Some i.field-0-is) p.entries u in
           rw (w.parts-is, w.reply-is, i.field-0-is, w.bared-parts.ensures) h.1
-      | in-None w ↦ rw (w.parts-is, w.reply-is) w.answer-answered.ensures.stepping
+      | in-None w ↦ rw (w.parts-is, w.reply-is, w.parts_of-parts-in-None.ensures.same, ← w.session_of.ensures) w.step-stepped.ensures
     ]
 
 pub loop-span-preserved : goal.loop-span-preserved
