@@ -32,16 +32,16 @@ unfolding pick_told digits_by digits
 pick-printed (Ok i) = refl
 pick-printed (Err q) = refl
 
--- ---- of a reply that is made of an answer
+-- ---- of a reply that is made of an answer: no hyphens, as `using` of a function's tactic takes none
 
-pub of-call : {K : Type 0} (k : K) (a : Answer) {y : Reply K Reason} → y ≡ told k a → CallPrinted a y
-of-call k a e = rw e (call-printed k a)
+pub of_call : {K : Type 0} (k : K) (a : Answer) {y : Reply K Reason} → y ≡ told k a → CallPrinted a y
+of_call k a e = rw e (call-printed k a)
 
-pub of-mean : (m : Mean) {y : Reply Kind Reason} → y ≡ mean_told m → MeanPrinted m y
-of-mean m e = rw e (mean-printed m)
+pub of_mean : (m : Mean) {y : Reply Kind Reason} → y ≡ mean_told m → MeanPrinted m y
+of_mean m e = rw e (mean-printed m)
 
-pub of-pick : (c : Result ℕ Refusal) {y : Reply Kind Reason} → y ≡ pick_told c → PickPrinted c y
-of-pick c e = rw e (pick-printed c)
+pub of_pick : (c : Result ℕ Refusal) {y : Reply Kind Reason} → y ≡ pick_told c → PickPrinted c y
+of_pick c e = rw e (pick-printed c)
 
 -- ---- of a board
 

@@ -93,6 +93,7 @@ fn tell(s: Session, call: Call) -> Stepped
 }
 
 // The reply to a mean. `pick_told` stands beside it: one function for both would take the kind, the answer's reply and the reason's variant, which is all that either arm holds.
+#[tactic(auto, using(crate::proofs::Printed::of_mean), unfolding(crate::specs::Session::mean_told))]
 fn mean_told(m: Result<NVector, NoMean>) -> Reply
     ensures value { result ≡ spec.mean_told m }
     ensures printed { printed.MeanPrinted m result }

@@ -1,6 +1,6 @@
 -- The reply to each answer, and what is printed of it.
 use Rattle.sessions.specs.Session.{told}
-use Rattle.sessions.proofs.Printed.{of-call}
+use Rattle.sessions.proofs.Printed.{of_call}
 use Rattle.sessions.proofs.session.told.Goals as goal
 
 pub returns-in-Ok-None-clause-value : goal.returns-in-Ok-None-clause-value
@@ -16,10 +16,10 @@ unfolding told
 returns-in-Err-clause-value g c = rw c.in-Err.is
 
 pub returns-in-Ok-None-clause-printed : goal.returns-in-Ok-None-clause-printed
-returns-in-Ok-None-clause-printed g c = of-call _ _ (returns-in-Ok-None-clause-value g c)
+returns-in-Ok-None-clause-printed g c = of_call _ _ (returns-in-Ok-None-clause-value g c)
 
 pub returns-in-Ok-Some-clause-printed : goal.returns-in-Ok-Some-clause-printed
-returns-in-Ok-Some-clause-printed g c = of-call _ _ (returns-in-Ok-Some-clause-value g c)
+returns-in-Ok-Some-clause-printed g c = of_call _ _ (returns-in-Ok-Some-clause-value g c)
 
 pub returns-in-Err-clause-printed : goal.returns-in-Err-clause-printed
-returns-in-Err-clause-printed g c = of-call _ _ (returns-in-Err-clause-value g c)
+returns-in-Err-clause-printed g c = of_call _ _ (returns-in-Err-clause-value g c)
